@@ -1,0 +1,4 @@
+mod Arithmetic
+mod Holding
+mod Order
+mod Examples
