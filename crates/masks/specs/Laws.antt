@@ -74,7 +74,7 @@ lowest-and a b = ap (λ f. first f 64) (λ i p. and-permits a b p i)
 kept : (m j p : ℕ) → bit (m % 2 ^ (j + 1 + p)) p ≡ bit m p
 kept m j p = rw (field m (j + 1) p, mod-mod-pow (m / 2 ^ p) j 1)
 
-clipped-bit : (m n p : ℕ) → bit (m % 2 ^ n) p ≡ (ltb p n && bit m p)
+pub clipped-bit : (m n p : ℕ) → bit (m % 2 ^ n) p ≡ (ltb p n && bit m p)
 clipped-bit m n p = go (ltb p n) refl
   where
     go : (t : Bool) → ltb p n ≡ t → bit (m % 2 ^ n) p ≡ (t && bit m p)

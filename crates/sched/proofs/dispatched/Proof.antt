@@ -1,0 +1,12 @@
+-- `sched::dispatched` meets its contract. Assumes nothing.
+use mathlib.Core.Path.{refl}
+use Rattle.sched.specs.Records.{dispatched}
+use Rattle.sched.proofs.dispatched.Statement.{statement}
+use Rattle.sched.proofs.dispatched.Tie as tie
+
+returns : tie.Need-returns
+unfolding dispatched
+returns c = refl
+
+pub dispatched-spec : {M : Type 1} → statement M
+dispatched-spec = tie.close (tie.spec returns)

@@ -1,0 +1,210 @@
+-- What a change may do to a sound system, and that it leaves a sound one. Assumes nothing.
+use Prim.Native.Nat.{ℕ, _+_, _-_, _/_, _%_, _^_, _<_, min}
+use mathlib.Core.Bool.{Bool, true}
+use mathlib.Core.Path.{_≡_, sym, _∙_, ap}
+use native.Mathlib.Omega.{arith}
+use native.Mathlib.Decide.{ℕ-discrete}
+use Rattle.masks.specs.Masks.{permits}
+use Rattle.system.specs.declared.RunState.{RunState}
+use Rattle.system.specs.declared.RunState.the-variants.{Runnable, Running}
+use Rattle.system.specs.declared.VirtualCpu.{VirtualCpu}
+use Rattle.system.specs.declared.Occupant.the-variants.{Idle, Vcpu}
+use Rattle.system.specs.declared.System.{System}
+use Rattle.system.specs.declared.Answer.{Answer}
+use Rattle.system.specs.Reads.{domains, vcpus, pcpus, slot, vcpuAt, occupantAt}
+use Rattle.system.specs.Writes.{SameShape, Wrote}
+use Rattle.verdict.specs.Sound.{Present, OnPcpu, Holds, Sound}
+use Rattle.sched.specs.declared.Change.{Change}
+use Rattle.sched.specs.declared.Change.the-variants.{Refuse, Write, Move}
+use Rattle.sched.specs.Records.{elapsed}
+
+abbrev pub stateAt : System → ℕ → RunState
+stateAt s i = (vcpuAt s i) .state
+
+abbrev pub admits : System → ℕ → ℕ → Bool
+admits s i p = permits ((vcpuAt s i) .affinity) p
+
+-- the vCPU of slot i waits, and may be dispatched onto pCPU p
+pub record CanRun (s : System) (i p : ℕ) : Type 0 where
+  pub present : Present s i
+  pub ready : stateAt s i ≡ Runnable
+  pub exists : p < pcpus s
+  pub free : occupantAt s p ≡ Idle
+  pub affine : admits s i p ≡ true
+
+abbrev pub NotRunning : RunState → Type 0
+NotRunning st = (q : ℕ) → st ≡ Running q → ⊥
+
+-- a record made anew that runs where the old one did, for as long
+pub record StaysPut (old new : VirtualCpu) : Type 0 where
+  pub time : new .runtime ≡ old .runtime
+  pub was : (q : ℕ) → new .state ≡ Running q → old .state ≡ Running q
+  pub still : (q : ℕ) → old .state ≡ Running q → new .state ≡ Running q
+  pub affine : (q : ℕ) → new .state ≡ Running q → permits (old .affinity) q ≡ true → permits (new .affinity) q ≡ true
+
+-- a record whose interval was closed
+pub record Closed (old new : VirtualCpu) (now : ℕ) : Type 0 where
+  pub rests : NotRunning (new .state)
+  pub time : new .runtime ≡ min (old .runtime + elapsed old now) (2 ^ 64 - 1)
+
+-- a record whose interval was opened on pCPU p
+pub record Opened (old new : VirtualCpu) (p : ℕ) : Type 0 where
+  pub on : new .state ≡ Running p
+  pub affine : permits (new .affinity) p ≡ true
+  pub time : new .runtime ≡ old .runtime
+
+-- a change of the vCPU at slot i that keeps both records of who runs where in step
+pub data Legal (s : System) (i : ℕ) : Change → Type 0 where
+  stays : (a : Answer) → Legal s i (Refuse a)
+  keeps : {v : VirtualCpu} → StaysPut (vcpuAt s i) v → Legal s i (Write v)
+  goes-on : {v : VirtualCpu} {p : ℕ} → CanRun s i p → Opened (vcpuAt s i) v p → Legal s i (Move v p (Vcpu (i / 8) (i % 8)))
+  comes-off : {v : VirtualCpu} {p : ℕ} (now : ℕ) → stateAt s i ≡ Running p → Closed (vcpuAt s i) v now → Legal s i (Move v p Idle)
+
+-- ---- a system of the same shape has the same vCPUs and pCPUs
+
+pub same-pcpus : {s s′ : System} → SameShape s s′ → pcpus s′ ≡ pcpus s
+same-pcpus h = ap (λ (n : ℕ). min n 64) (h .pcpus)
+
+pub present-back : {s s′ : System} {i : ℕ} → SameShape s s′ → Present s′ i → Present s i
+present-back h k = record { domain = omega (arith, h .domains, k .domain); vcpu = omega (arith, h .vcpus, k .vcpu) }
+
+pub present-on : {s s′ : System} {i : ℕ} → SameShape s s′ → Present s i → Present s′ i
+present-on h k = record { domain = omega (arith, h .domains, k .domain); vcpu = omega (arith, h .vcpus, k .vcpu) }
+
+-- slots of one system are below 128, and a slot is that of one pair of ids
+pub slot-below : {s : System} {i : ℕ} → Present s i → i < 128
+slot-below h = omega (arith, h .domain)
+
+pub slot-of : (i : ℕ) → slot (i / 8) (i % 8) ≡ i
+slot-of i = omega arith
+
+pub slot-domain : (d v : ℕ) → v < 8 → slot d v / 8 ≡ d
+slot-domain d v h = omega arith
+
+pub slot-vcpu : (d v : ℕ) → v < 8 → slot d v % 8 ≡ v
+slot-vcpu d v h = omega arith
+
+module _ {s s′ : System} {i p : ℕ} {v : VirtualCpu} where
+  -- a vCPU goes onto an idle pCPU
+  pub sound-on : Sound s → CanRun s i p → Wrote s s′ i v p (Vcpu (i / 8) (i % 8)) → v .state ≡ Running p → permits (v .affinity) p ≡ true
+      → Sound s′
+  sound-on S c w st af =
+      record {
+        domains = omega (arith, w .shape .domains, S .domains);
+        vcpus = omega (arith, w .shape .vcpus, S .vcpus);
+        pcpus = omega (arith, w .shape .pcpus, S .pcpus);
+        runs = λ j q h e. runs′ j q h e (ℕ-discrete j i);
+        held = λ q d u l e. held′ q d u l e (ℕ-discrete q p);
+      }
+    where
+      room : pcpus s′ ≡ pcpus s
+      room = same-pcpus (w .shape)
+
+      runs′ : (j q : ℕ) → Present s′ j → stateAt s′ j ≡ Running q → Dec (j ≡ i) → OnPcpu s′ j q
+      runs′ j q h e (yes j≡i) =
+          let q≡p : q ≡ p = cc in
+          let k = c .exists in
+          record { exists = omega arith; back = cc; admits = cc }
+      runs′ j q h e (no j≢i) =
+          let f = w .there j j≢i in
+          let o = S .runs j q (present-back (w .shape) h) (cc) in
+          let g = w .others q (λ (x : q ≡ p). let z : _≡_ {A = ℕ} 0 1 = cc in omega arith) in
+          let k = o .exists in
+          record { exists = omega arith; back = cc; admits = cc }
+
+      held′ : (q d u : ℕ) → q < pcpus s′ → occupantAt s′ q ≡ Vcpu d u → Dec (q ≡ p) → Holds s′ q d u
+      held′ q d u l e (yes q≡p) =
+          let a : d ≡ i / 8 = cc in
+          let b : u ≡ i % 8 = cc in
+          let j : slot d u ≡ i = omega arith in
+          let k = present-on (w .shape) (c .present) in
+          record { domain = omega (arith, k .domain); vcpu = omega (arith, k .vcpu); on = cc }
+      held′ q d u l e (no q≢p) =
+          let g = w .others q q≢p in
+          let h = S .held q d u (omega arith) (sym g ∙ e) in
+          let r = h .on in
+          let f = w .there (slot d u) (λ (x : slot d u ≡ i). let z : _≡_ {A = ℕ} 0 1 = cc in omega arith) in
+          record { domain = omega (arith, w .shape .domains, h .domain); vcpu = omega (arith, w .shape .vcpus, h .vcpu); on = cc }
+
+  -- a vCPU comes off its pCPU
+  pub sound-off : Sound s → Present s i → stateAt s i ≡ Running p → Wrote s s′ i v p Idle → NotRunning (v .state) → Sound s′
+  sound-off S hi on w st =
+      record {
+        domains = omega (arith, w .shape .domains, S .domains);
+        vcpus = omega (arith, w .shape .vcpus, S .vcpus);
+        pcpus = omega (arith, w .shape .pcpus, S .pcpus);
+        runs = λ j q h e. runs′ j q h e (ℕ-discrete j i);
+        held = λ q d u l e. held′ q d u l e (ℕ-discrete q p);
+      }
+    where
+      room : pcpus s′ ≡ pcpus s
+      room = same-pcpus (w .shape)
+
+      runs′ : (j q : ℕ) → Present s′ j → stateAt s′ j ≡ Running q → Dec (j ≡ i) → OnPcpu s′ j q
+      runs′ j q h e (yes j≡i) = absurd (st q (cc))
+      runs′ j q h e (no j≢i) =
+          let f = w .there j j≢i in
+          let o = S .runs j q (present-back (w .shape) h) (cc) in
+          let m = S .runs i p hi on in
+          let b = o .back in
+          let c = m .back in
+          let g = w .others q (λ (x : q ≡ p). j≢i (let y : slot (j / 8) (j % 8) ≡ slot (i / 8) (i % 8) = cc in sym (slot-of j) ∙ (y ∙ slot-of i))) in
+          let k = o .exists in
+          record { exists = omega arith; back = cc; admits = cc }
+
+      held′ : (q d u : ℕ) → q < pcpus s′ → occupantAt s′ q ≡ Vcpu d u → Dec (q ≡ p) → Holds s′ q d u
+      held′ q d u l e (yes q≡p) = absurd (let z : _≡_ {A = ℕ} 0 1 = cc in omega arith)
+      held′ q d u l e (no q≢p) =
+          let g = w .others q q≢p in
+          let h = S .held q d u (omega arith) (sym g ∙ e) in
+          let r = h .on in
+          let f = w .there (slot d u) (λ (x : slot d u ≡ i). q≢p (cc)) in
+          record { domain = omega (arith, w .shape .domains, h .domain); vcpu = omega (arith, w .shape .vcpus, h .vcpu); on = cc }
+
+  -- a vCPU stays where it is
+  pub sound-keep : Sound s → Wrote s s′ i v p (occupantAt s p) → StaysPut (vcpuAt s i) v → Present s i → Sound s′
+  sound-keep S w k hi =
+      record {
+        domains = omega (arith, w .shape .domains, S .domains);
+        vcpus = omega (arith, w .shape .vcpus, S .vcpus);
+        pcpus = omega (arith, w .shape .pcpus, S .pcpus);
+        runs = λ j q h e. runs′ j q h e (ℕ-discrete j i);
+        held = λ q d u l e. held′ q d u l e (ℕ-discrete (slot d u) i);
+      }
+    where
+      room : pcpus s′ ≡ pcpus s
+      room = same-pcpus (w .shape)
+
+      same : (q : ℕ) → Dec (q ≡ p) → occupantAt s′ q ≡ occupantAt s q
+      same q (yes e) = let o = w .onto in cc
+      same q (no n) = w .others q n
+
+      runs′ : (j q : ℕ) → Present s′ j → stateAt s′ j ≡ Running q → Dec (j ≡ i) → OnPcpu s′ j q
+      runs′ j q h e (yes j≡i) =
+          let g = same q (ℕ-discrete q p) in
+          let r : v .state ≡ Running q = cc in
+          let o = S .runs i q hi (k .was q r) in
+          let a = k .affine q r (o .admits) in
+          let b = o .back in
+          let x = o .exists in
+          record { exists = omega arith; back = cc; admits = cc }
+      runs′ j q h e (no j≢i) =
+          let f = w .there j j≢i in
+          let g = same q (ℕ-discrete q p) in
+          let o = S .runs j q (present-back (w .shape) h) (cc) in
+          let x = o .exists in
+          record { exists = omega arith; back = cc; admits = cc }
+
+      held′ : (q d u : ℕ) → q < pcpus s′ → occupantAt s′ q ≡ Vcpu d u → Dec (slot d u ≡ i) → Holds s′ q d u
+      held′ q d u l e (yes x) =
+          let g = same q (ℕ-discrete q p) in
+          let h = S .held q d u (omega arith) (sym g ∙ e) in
+          let r = h .on in
+          let b = k .still q (cc) in
+          record { domain = omega (arith, w .shape .domains, h .domain); vcpu = omega (arith, w .shape .vcpus, h .vcpu); on = cc }
+      held′ q d u l e (no n) =
+          let g = same q (ℕ-discrete q p) in
+          let h = S .held q d u (omega arith) (sym g ∙ e) in
+          let r = h .on in
+          let f = w .there (slot d u) n in
+          record { domain = omega (arith, w .shape .domains, h .domain); vcpu = omega (arith, w .shape .vcpus, h .vcpu); on = cc }

@@ -1,0 +1,28 @@
+-- What a call can be told.
+use Prim.Native.Nat.{ℕ}
+use Rattle.system.specs.declared.Answer.{Answer}
+use Rattle.system.specs.declared.Answer.the-variants.{Done, BadDomain, BadVcpu, BadPcpu, WrongState}
+use Rattle.system.specs.declared.Answer.the-variants.{PcpuBusy, NotAffine, TooLarge, Unsound, BadScript}
+use Rattle.system.specs.declared.System.{System}
+use Rattle.system.specs.declared.Stepped.{Stepped}
+
+-- each answer's number
+abbrev pub told : Answer → ℕ
+told Done = 0
+told BadDomain = 1
+told BadVcpu = 2
+told BadPcpu = 3
+told WrongState = 4
+told PcpuBusy = 5
+told NotAffine = 6
+told TooLarge = 7
+told Unsound = 8
+told BadScript = 9
+
+-- the number told, and the system that the call leaves
+pub record Outcome : Type 0 where
+  pub number : ℕ
+  pub system : System
+
+abbrev pub outcome : Stepped → Outcome
+outcome r = record { number = told (r .answer); system = r .system }

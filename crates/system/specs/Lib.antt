@@ -1,0 +1,4 @@
+pub mod Answers
+pub mod Shape
+pub mod Reads
+pub mod Writes

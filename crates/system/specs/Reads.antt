@@ -1,0 +1,114 @@
+-- What can be read of a system, damaged or not.
+use Prim.Native.Nat.{ℕ, zero, suc, _+_, _*_, min}
+use mathlib.Core.Bool.{Bool, true, false, cond, not, _&&_}
+use lib.Dec.{ltb}
+use lib.ListN.{getD}
+use Rattle.masks.specs.Masks.{permits, fullMask}
+use Rattle.system.specs.declared.RunState.{RunState}
+use Rattle.system.specs.declared.RunState.the-variants.{Offline, Runnable, Running, Blocked}
+use Rattle.system.specs.declared.VirtualCpu.{VirtualCpu}
+use Rattle.system.specs.declared.Occupant.{Occupant}
+use Rattle.system.specs.declared.Occupant.the-variants.{Idle, Vcpu}
+use Rattle.system.specs.declared.System.{System}
+use Rattle.system.specs.declared.MaybeVcpu.{MaybeVcpu}
+use Rattle.system.specs.declared.MaybeState.{MaybeState}
+use Rattle.system.specs.declared.MaybeU64.{MaybeU64}
+use Rattle.system.specs.Shape.{offline, idle}
+
+-- a count that is read is held at its size
+abbrev pub domains : System → ℕ
+domains s = min (s .«domain_count») 16
+
+abbrev pub vcpus : System → ℕ
+vcpus s = min (s .«vcpus_per_domain») 8
+
+abbrev pub pcpus : System → ℕ
+pcpus s = min (s .«pcpu_count») 64
+
+-- vCPU d/v stands at d × 8 + v
+abbrev pub slot : ℕ → ℕ → ℕ
+slot d v = d * 8 + v
+
+-- what stands at a slot, and who holds a pCPU
+unfoldable pub vcpuAt : System → ℕ → VirtualCpu
+vcpuAt s i = getD (s .vcpus) i offline
+
+unfoldable pub occupantAt : System → ℕ → Occupant
+occupantAt s p = (getD (s .pcpus) p idle) .occupant
+
+abbrev pub isIdle : Occupant → Bool
+isIdle Idle = true
+isIdle (Vcpu d v) = false
+
+-- an id at or above its count is absent
+unfoldable pub vcpuOf : System → ℕ → ℕ → MaybeVcpu
+vcpuOf s d v = cond (ltb d (domains s) && ltb v (vcpus s)) (MaybeVcpu.Some (vcpuAt s (slot d v))) MaybeVcpu.None
+
+abbrev pub vcpuCount : System → ℕ → ℕ
+vcpuCount s d = cond (ltb d (domains s)) (vcpus s) 0
+
+abbrev pub stateIn : MaybeVcpu → MaybeState
+stateIn MaybeVcpu.None = MaybeState.None
+stateIn (MaybeVcpu.Some v) = MaybeState.Some (v .state)
+
+abbrev pub stateOf : System → ℕ → ℕ → MaybeState
+stateOf s d v = stateIn (vcpuOf s d v)
+
+abbrev pub runs : MaybeState → Bool
+runs MaybeState.None = false
+runs (MaybeState.Some Offline) = false
+runs (MaybeState.Some Runnable) = false
+runs (MaybeState.Some (Running p)) = true
+runs (MaybeState.Some Blocked) = false
+
+abbrev pub isRunning : System → ℕ → ℕ → Bool
+isRunning s d v = runs (stateOf s d v)
+
+abbrev pub runtimeIn : MaybeVcpu → MaybeU64
+runtimeIn MaybeVcpu.None = MaybeU64.None
+runtimeIn (MaybeVcpu.Some v) = MaybeU64.Some (v .runtime)
+
+abbrev pub runtimeOf : System → ℕ → ℕ → MaybeU64
+runtimeOf s d v = runtimeIn (vcpuOf s d v)
+
+-- the clock of a Running vCPU's dispatch
+abbrev pub since : RunState → ℕ → MaybeU64
+since Offline t = MaybeU64.None
+since Runnable t = MaybeU64.None
+since (Running p) t = MaybeU64.Some t
+since Blocked t = MaybeU64.None
+
+abbrev pub sinceIn : MaybeVcpu → MaybeU64
+sinceIn MaybeVcpu.None = MaybeU64.None
+sinceIn (MaybeVcpu.Some v) = since (v .state) (v .«dispatched_at»)
+
+abbrev pub onCpuSince : System → ℕ → ℕ → MaybeU64
+onCpuSince s d v = sinceIn (vcpuOf s d v)
+
+abbrev pub occupantOf : System → ℕ → Occupant
+occupantOf s p = cond (ltb p (pcpus s)) (occupantAt s p) Idle
+
+abbrev pub affinityIn : MaybeVcpu → MaybeU64
+affinityIn MaybeVcpu.None = MaybeU64.None
+affinityIn (MaybeVcpu.Some v) = MaybeU64.Some (v .affinity)
+
+abbrev pub affinityOf : System → ℕ → ℕ → MaybeU64
+affinityOf s d v = affinityIn (vcpuOf s d v)
+
+abbrev pub permitsIn : MaybeVcpu → ℕ → Bool
+permitsIn MaybeVcpu.None p = false
+permitsIn (MaybeVcpu.Some v) p = permits (v .affinity) p
+
+abbrev pub affinityPermits : System → ℕ → ℕ → ℕ → Bool
+affinityPermits s d v p = permitsIn (vcpuOf s d v) p
+
+abbrev pub fullAffinity : System → ℕ
+fullAffinity s = fullMask (s .«pcpu_count»)
+
+-- how many numbers below n have f
+unfoldable pub count : (ℕ → Bool) → ℕ → ℕ
+count f zero = 0
+count f (suc n) = count f n + cond (f n) 1 0
+
+abbrev pub busyPcpus : System → ℕ
+busyPcpus s = count (λ p. not (isIdle (occupantAt s p))) (pcpus s)

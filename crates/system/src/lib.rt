@@ -1,0 +1,353 @@
+//! The scheduler's records: where each vCPU is, how long it ran, and who holds each pCPU; how a
+//! system is built, and what can be read of one. Reads answer on a damaged system too.
+
+ghost use mathlib.Core.Path.{_≡_};
+ghost use mathlib.Core.Bool.{cond, not};
+ghost use Prim.Native.Nat.{min};
+ghost use Rattle.system.specs.Answers.{outcome};
+ghost use Rattle.system.specs.Shape.{fits, fresh, built};
+ghost use Rattle.system.specs.Reads.{domains, pcpus, vcpuCount, isIdle, vcpuOf, stateOf, runs, isRunning};
+ghost use Rattle.system.specs.Reads.{runtimeOf, since, onCpuSince, occupantOf, affinityOf, affinityPermits};
+ghost use Rattle.system.specs.Reads.{fullAffinity, busyPcpus};
+
+/// A domain id: an index into the system's domains.
+pub type DomId = u16;
+/// A vCPU id within its domain.
+pub type Vcpu = u32;
+/// A pCPU id.
+pub type Pcpu = u32;
+/// A clock reading.
+pub type Ticks = u64;
+
+/// What a vCPU is doing.
+pub enum RunState {
+    /// Not schedulable: never admitted, or taken down again.
+    Offline,
+    /// Waiting for a pCPU.
+    Runnable,
+    /// Executing on this pCPU, whose occupant names the vCPU back.
+    Running { pcpu: Pcpu },
+    /// Waiting for an event.
+    Blocked,
+}
+
+/// One vCPU.
+pub struct VirtualCpu {
+    pub state: RunState,
+    /// Ticks on pCPUs, over closed intervals.
+    pub runtime: Ticks,
+    /// When the present interval began; of meaning only while Running.
+    pub dispatched_at: Ticks,
+    /// Hard affinity: bit p admits pCPU p.
+    pub affinity: u64,
+}
+
+/// Who holds a pCPU.
+pub enum Occupant {
+    Idle,
+    Vcpu { dom: DomId, vcpu: Vcpu },
+}
+
+/// One pCPU.
+pub struct PhysicalCpu {
+    pub occupant: Occupant,
+}
+
+/// The whole system. vCPU d/v stands at d × 8 + v, whatever the counts.
+pub struct System {
+    pub domain_count: usize,
+    pub vcpus_per_domain: usize,
+    pub pcpu_count: usize,
+    pub vcpus: [VirtualCpu; 128],
+    pub pcpus: [PhysicalCpu; 64],
+}
+
+/// What a call is told.
+pub enum Answer {
+    Done,
+    BadDomain,
+    BadVcpu,
+    BadPcpu,
+    WrongState,
+    PcpuBusy,
+    NotAffine,
+    TooLarge,
+    Unsound,
+    BadScript,
+}
+
+/// An answer, and the system that the call leaves.
+pub struct Stepped {
+    pub answer: Answer,
+    pub system: System,
+}
+
+pub enum MaybeVcpu {
+    None,
+    Some(VirtualCpu),
+}
+
+pub enum MaybeState {
+    None,
+    Some(RunState),
+}
+
+pub enum MaybeU64 {
+    None,
+    Some(u64),
+}
+
+/// The most domains of a system.
+pub const MAX_DOMAINS: usize = 16;
+/// The most vCPUs of a domain.
+pub const MAX_VCPUS: usize = 8;
+/// The most pCPUs of a system.
+pub const MAX_PCPUS: usize = 64;
+
+impl VirtualCpu {
+    /// What every record starts from; whoever makes one puts the full mask in.
+    pub const OFFLINE: VirtualCpu = VirtualCpu {
+        state: RunState::Offline,
+        runtime: 0,
+        dispatched_at: 0,
+        affinity: 0,
+    };
+}
+
+impl PhysicalCpu {
+    pub const IDLE: PhysicalCpu = PhysicalCpu {
+        occupant: Occupant::Idle,
+    };
+}
+
+/// Whether a host may have that shape.
+pub fn within_sizes(num_domains: usize, vcpus_per_domain: usize, num_pcpus: usize) -> bool
+    ensures { λ r. ⌜ r ≡ fits «num_domains» «vcpus_per_domain» «num_pcpus» ⌝ }
+{
+    if num_domains <= MAX_DOMAINS {
+        if vcpus_per_domain <= MAX_VCPUS {
+            return num_pcpus <= MAX_PCPUS;
+        }
+    }
+    false
+}
+
+fn least(a: usize, b: usize) -> usize
+    ensures { λ r. ⌜ r ≡ min a b ⌝ }
+{
+    if a < b { a } else { b }
+}
+
+// A system of that shape: all vCPUs Offline with every pCPU admitted, all pCPUs idle.
+fn as_built(num_domains: usize, vcpus_per_domain: usize, num_pcpus: usize) -> System
+    ensures { λ r. ⌜ r ≡ fresh «num_domains» «vcpus_per_domain» «num_pcpus» ⌝ }
+{
+    let mut v = VirtualCpu::OFFLINE;
+    v.affinity = masks::full_mask(num_pcpus);
+    System {
+        domain_count: num_domains,
+        vcpus_per_domain,
+        pcpu_count: num_pcpus,
+        vcpus: [v; 128],
+        pcpus: [PhysicalCpu::IDLE; 64],
+    }
+}
+
+impl System {
+    /// A system of that shape. One above the sizes is refused, beside the system of no domains,
+    /// vCPUs and pCPUs.
+    pub fn new(num_domains: usize, vcpus_per_domain: usize, num_pcpus: usize) -> Stepped
+        ensures { λ r. ⌜ outcome r ≡ built «num_domains» «vcpus_per_domain» «num_pcpus» ⌝ }
+    {
+        if within_sizes(num_domains, vcpus_per_domain, num_pcpus) {
+            Stepped {
+                answer: Answer::Done,
+                system: as_built(num_domains, vcpus_per_domain, num_pcpus),
+            }
+        } else {
+            Stepped {
+                answer: Answer::TooLarge,
+                system: as_built(0, 0, 0),
+            }
+        }
+    }
+
+    /// The number of domains.
+    pub fn domain_count(self) -> usize
+        ensures { λ r. ⌜ r ≡ domains self ⌝ }
+    {
+        least(self.domain_count, MAX_DOMAINS)
+    }
+
+    /// The number of vCPUs of a domain, 0 for a bad id.
+    pub fn vcpu_count(self, dom: DomId) -> usize
+        ensures { λ r. ⌜ r ≡ vcpuCount self dom ⌝ }
+    {
+        if (dom as usize) < least(self.domain_count, MAX_DOMAINS) {
+            least(self.vcpus_per_domain, MAX_VCPUS)
+        } else {
+            0
+        }
+    }
+
+    /// The number of pCPUs.
+    pub fn pcpu_count(self) -> usize
+        ensures { λ r. ⌜ r ≡ pcpus self ⌝ }
+    {
+        least(self.pcpu_count, MAX_PCPUS)
+    }
+
+    /// A vCPU's record, if the ids are in range.
+    pub fn vcpu(self, dom: DomId, vcpu: Vcpu) -> MaybeVcpu
+        ensures { λ r. ⌜ r ≡ vcpuOf self dom vcpu ⌝ }
+    {
+        let d = dom as usize;
+        let u = vcpu as usize;
+        if d < least(self.domain_count, MAX_DOMAINS) {
+            if u < least(self.vcpus_per_domain, MAX_VCPUS) {
+                let v = self.vcpus[d * 8 + u];
+                return MaybeVcpu::Some(v);
+            }
+        }
+        MaybeVcpu::None
+    }
+
+    /// A vCPU's run state, if the ids are in range.
+    pub fn state_of(self, dom: DomId, vcpu: Vcpu) -> MaybeState
+        ensures { λ r. ⌜ r ≡ stateOf self dom vcpu ⌝ }
+    {
+        let found = self.vcpu(dom, vcpu);
+        match found {
+            MaybeVcpu::None => MaybeState::None,
+            MaybeVcpu::Some(v) => {
+                let state = v.state;
+                MaybeState::Some(state)
+            }
+        }
+    }
+
+    /// Whether a vCPU is Running, on any pCPU.
+    pub fn is_running(self, dom: DomId, vcpu: Vcpu) -> bool
+        ensures { λ r. ⌜ r ≡ isRunning self dom vcpu ⌝ }
+    {
+        running(self.state_of(dom, vcpu))
+    }
+
+    /// A vCPU's run time over closed intervals, if the ids are in range.
+    pub fn runtime(self, dom: DomId, vcpu: Vcpu) -> MaybeU64
+        ensures { λ r. ⌜ r ≡ runtimeOf self dom vcpu ⌝ }
+    {
+        let found = self.vcpu(dom, vcpu);
+        match found {
+            MaybeVcpu::None => MaybeU64::None,
+            MaybeVcpu::Some(v) => MaybeU64::Some(v.runtime),
+        }
+    }
+
+    /// When a vCPU's present interval began, if it is Running.
+    pub fn on_cpu_since(self, dom: DomId, vcpu: Vcpu) -> MaybeU64
+        ensures { λ r. ⌜ r ≡ onCpuSince self dom vcpu ⌝ }
+    {
+        let found = self.vcpu(dom, vcpu);
+        match found {
+            MaybeVcpu::None => MaybeU64::None,
+            MaybeVcpu::Some(v) => {
+                let state = v.state;
+                while_running(state, v.dispatched_at)
+            }
+        }
+    }
+
+    /// Who holds a pCPU; nobody holds one out of range.
+    pub fn occupant(self, pcpu: Pcpu) -> Occupant
+        ensures { λ r. ⌜ r ≡ occupantOf self pcpu ⌝ }
+    {
+        let p = pcpu as usize;
+        if p < least(self.pcpu_count, MAX_PCPUS) {
+            let c = self.pcpus[p];
+            c.occupant
+        } else {
+            Occupant::Idle
+        }
+    }
+
+    /// A vCPU's mask, if the ids are in range.
+    pub fn affinity_of(self, dom: DomId, vcpu: Vcpu) -> MaybeU64
+        ensures { λ r. ⌜ r ≡ affinityOf self dom vcpu ⌝ }
+    {
+        let found = self.vcpu(dom, vcpu);
+        match found {
+            MaybeVcpu::None => MaybeU64::None,
+            MaybeVcpu::Some(v) => MaybeU64::Some(v.affinity),
+        }
+    }
+
+    /// Whether a vCPU's mask admits a pCPU; never for ids out of range.
+    pub fn affinity_permits(self, dom: DomId, vcpu: Vcpu, pcpu: Pcpu) -> bool
+        ensures { λ r. ⌜ r ≡ affinityPermits self dom vcpu pcpu ⌝ }
+    {
+        let found = self.vcpu(dom, vcpu);
+        match found {
+            MaybeVcpu::None => false,
+            MaybeVcpu::Some(v) => masks::mask_permits(v.affinity, pcpu),
+        }
+    }
+
+    /// The mask that admits every pCPU of the system.
+    pub fn full_affinity(self) -> u64
+        ensures { λ r. ⌜ r ≡ fullAffinity self ⌝ }
+    {
+        masks::full_mask(self.pcpu_count)
+    }
+
+    /// The number of pCPUs that somebody holds.
+    pub fn busy_pcpus(self) -> usize
+        ensures { λ r. ⌜ r ≡ busyPcpus self ⌝ }
+    {
+        let n = least(self.pcpu_count, MAX_PCPUS);
+        let mut busy: usize = 0;
+        let mut p: usize = 0;
+        while p < n {
+            let c = self.pcpus[p];
+            busy += one_if_busy(c);
+            p += 1;
+        }
+        busy
+    }
+}
+
+fn running(found: MaybeState) -> bool
+    ensures { λ r. ⌜ r ≡ runs found ⌝ }
+{
+    match found {
+        MaybeState::None => false,
+        MaybeState::Some(state) => match state {
+            RunState::Offline => false,
+            RunState::Runnable => false,
+            RunState::Running { pcpu: _ } => true,
+            RunState::Blocked => false,
+        },
+    }
+}
+
+// A dispatch's clock has a meaning only while Running.
+fn while_running(state: RunState, dispatched_at: Ticks) -> MaybeU64
+    ensures { λ r. ⌜ r ≡ since state «dispatched_at» ⌝ }
+{
+    match state {
+        RunState::Offline => MaybeU64::None,
+        RunState::Runnable => MaybeU64::None,
+        RunState::Running { pcpu: _ } => MaybeU64::Some(dispatched_at),
+        RunState::Blocked => MaybeU64::None,
+    }
+}
+
+fn one_if_busy(c: PhysicalCpu) -> usize
+    ensures { λ r. ⌜ r ≡ cond (not (isIdle (c .occupant))) 1 0 ⌝ }
+{
+    let o = c.occupant;
+    match o {
+        Occupant::Idle => 0,
+        Occupant::Vcpu { dom: _, vcpu: _ } => 1,
+    }
+}

@@ -1,0 +1,3 @@
+pub mod Violations
+pub mod Loops
+pub mod Sound
