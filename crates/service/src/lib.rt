@@ -7,6 +7,9 @@ ghost use lib.Dec.{ltb};
 ghost use Rattle.service.specs.Service.{value, held, moreDeserving};
 ghost use Rattle.service.specs.Columns.{worth, Small, Roomy, Carries, Splits};
 
+/// A service, as four limbs, the least first.
+pub type Service = [u32; 4];
+
 // A number as four columns, each worth 2^32 times the one before it, which may exceed a limb.
 struct Columns {
     a: u64,
@@ -28,7 +31,7 @@ struct Narrow {
 }
 
 // The limbs as columns, with room for sums and products.
-fn spread(n: [u32; 4]) -> Columns
+fn spread(n: Service) -> Columns
     ensures { λ r. ⌜ Small (value n) r ⌝ }
 {
     Columns {
@@ -131,7 +134,7 @@ fn carry(x: Columns) -> Carried
 }
 
 // The limbs of what the columns are worth, or the largest number where they cannot hold it.
-fn hold(x: Columns) -> [u32; 4]
+fn hold(x: Columns) -> Service
     requires { ⌜ Roomy (worth x) x ⌝ }
     ensures { λ r. ⌜ r ≡ held (worth x) ⌝ }
 {
@@ -140,7 +143,7 @@ fn hold(x: Columns) -> [u32; 4]
 }
 
 /// The service that is worth x.
-pub fn from_u64(x: u64) -> [u32; 4]
+pub fn from_u64(x: u64) -> Service
     ensures { λ r. ⌜ r ≡ held x ⌝ }
 {
     hold(Columns {
@@ -152,14 +155,14 @@ pub fn from_u64(x: u64) -> [u32; 4]
 }
 
 /// The sum of two services.
-pub fn sum(a: [u32; 4], b: [u32; 4]) -> [u32; 4]
+pub fn sum(a: Service, b: Service) -> Service
     ensures { λ r. ⌜ r ≡ held (value a + value b) ⌝ }
 {
     hold(add(spread(a), spread(b)))
 }
 
 /// The service times a weight.
-pub fn product(a: [u32; 4], weight: u32) -> [u32; 4]
+pub fn product(a: Service, weight: u32) -> Service
     ensures { λ r. ⌜ r ≡ held (value a * weight) ⌝ }
 {
     hold(scale(spread(a), weight as u64))
@@ -173,14 +176,14 @@ fn divisor(weight: u32) -> u64
 }
 
 /// The service over a weight, rounded down; a weight of 0 reads as 1.
-pub fn quotient(a: [u32; 4], weight: u32) -> [u32; 4]
+pub fn quotient(a: Service, weight: u32) -> Service
     ensures { λ r. ⌜ r ≡ held (value a / max weight 1) ⌝ }
 {
     hold(divide(spread(a), divisor(weight)))
 }
 
 /// What a has over b, or nothing.
-pub fn difference(a: [u32; 4], b: [u32; 4]) -> [u32; 4]
+pub fn difference(a: Service, b: Service) -> Service
     ensures { λ r. ⌜ r ≡ held (value a - value b) ⌝ }
 {
     if less(a, b) {
@@ -191,21 +194,21 @@ pub fn difference(a: [u32; 4], b: [u32; 4]) -> [u32; 4]
 }
 
 // The upper two limbs as one number, which the processor compares at once.
-fn upper(n: [u32; 4]) -> u64
+fn upper(n: Service) -> u64
     ensures { λ r. ⌜ r ≡ value n / 2 ^ 64 ⌝ }
 {
     n[3] as u64 * 0x1_0000_0000 + n[2] as u64
 }
 
 // The lower two limbs as one number.
-fn lower(n: [u32; 4]) -> u64
+fn lower(n: Service) -> u64
     ensures { λ r. ⌜ r ≡ value n % 2 ^ 64 ⌝ }
 {
     n[1] as u64 * 0x1_0000_0000 + n[0] as u64
 }
 
 /// Whether a is below b.
-pub fn less(a: [u32; 4], b: [u32; 4]) -> bool
+pub fn less(a: Service, b: Service) -> bool
     ensures { λ r. ⌜ r ≡ ltb (value a) (value b) ⌝ }
 {
     let x = upper(a);
@@ -235,7 +238,7 @@ fn narrow_deserving(x: u64, w: u32, y: u64, v: u32) -> bool
 }
 
 /// Whether a has had less service for its weight than b: a's service times b's weight is below b's times a's.
-pub fn more_deserving(a: [u32; 4], a_weight: u32, b: [u32; 4], b_weight: u32) -> bool
+pub fn more_deserving(a: Service, a_weight: u32, b: Service, b_weight: u32) -> bool
     ensures { λ r. ⌜ r ≡ moreDeserving (value a) «a_weight» (value b) «b_weight» ⌝ }
 {
     if upper(a) == 0 {

@@ -1,0 +1,34 @@
+//! The same calls as the program `bench_calls`, on upstream's mechanism.
+#![allow(dead_code)]
+extern crate alloc;
+mod sched;
+
+use std::io::Read;
+
+fn full_host() -> sched::System {
+    let mut s = sched::System::new(16, 8, 64);
+    for i in 0..128u32 {
+        let (dom, vcpu) = ((i / 8) as u16, i % 8);
+        s.admit(dom, vcpu).unwrap();
+        if i < 64 {
+            s.run(dom, vcpu, i, 0).unwrap();
+        }
+    }
+    s
+}
+
+fn main() {
+    let mut bytes = [0u8; 4];
+    std::io::stdin().read_exact(&mut bytes).unwrap();
+    let rounds = u64::from(u32::from_be_bytes(bytes));
+    let mut s = std::hint::black_box(full_host());
+    let mut done = 0u64;
+    for k in 0..rounds {
+        let s = std::hint::black_box(&mut s);
+        let _ = s.block(15, 7, k);
+        let _ = s.wake(15, 7);
+        let _ = s.preempt(0, 0, k);
+        done += u64::from(s.run(0, 0, 0, k).is_ok());
+    }
+    println!("{done}");
+}

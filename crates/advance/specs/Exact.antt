@@ -1,0 +1,68 @@
+-- Where no offset is set and no product is held, vCPUs are ranked by exact service over weight. Assumes nothing.
+use Prim.Native.Nat.{ℕ, _+_, _*_, _-_, _/_, _%_, _^_, _≤_, _<_, min, max}
+use mathlib.Core.Bool.{Bool, true, false}
+use mathlib.Core.Path.{_≡_, refl, sym, _∙_, ap, ap₂}
+use native.Mathlib.Omega.{arith}
+use native.Mathlib.Nat.{le-refl, add-zero, lt-of-lt-of-le}
+use lib.Dec.{ltb, lit≤}
+use borrow.Author.Tests.{ltb-true, ltb-false, lt-ltb, le-ltb}
+use Rattle.service.specs.Service.{moreDeserving}
+use Rattle.service.specs.Laws.{below-lid, deserving-exact, product-below}
+use Rattle.system.specs.declared.System.{System}
+use Rattle.system.specs.Reads.{vcpuAt}
+use Rattle.moves.specs.Scan.{Ranks}
+use Rattle.policy.specs.declared.Scheduler.{Scheduler}
+use Rattle.policy.specs.Accounts.{offsetOf}
+use Rattle.policy.specs.Standing.{inFlight, weightAt, serviceAt, deserves}
+use Rattle.advance.specs.Cross.{before-trans, after-trans}
+
+-- service without the offset
+abbrev pub rawService : System → ℕ → ℕ → ℕ
+rawService s now i = (vcpuAt s i) .runtime + inFlight (vcpuAt s i) now
+
+-- no offset is set, weights are those of 32 bits, and no service times a weight can be held
+pub record Level (s : System) (π : Scheduler) (now : ℕ) : Type 0 where
+  pub offsets : (i : ℕ) → offsetOf π (i / 8) (i % 8) ≡ 0
+  pub weights : (i : ℕ) → weightAt π i < 2 ^ 32
+  pub services : (i : ℕ) → rawService s now i < 2 ^ 96
+
+pub weight-pos : (π : Scheduler) (i : ℕ) → 0 < weightAt π i
+weight-pos π i = omega arith
+
+module _ {s : System} {π : Scheduler} {now : ℕ} (L : Level s π now) where
+  service-raw : (i : ℕ) → serviceAt s π now i ≡ rawService s now i
+  unfolding serviceAt
+  service-raw i =
+      ap (λ (o : ℕ). min (rawService s now i + o) (2 ^ 128 - 1)) (L .offsets i)
+      ∙ (ap (λ (n : ℕ). min n (2 ^ 128 - 1)) (add-zero (rawService s now i)) ∙ below-lid _ (2 ^ 128) (lt-of-lt-of-le (L .services i) (lit≤ tt)))
+
+  pub deserves-exact : (i j : ℕ) → deserves s π now i j ≡ ltb (rawService s now i * weightAt π j) (rawService s now j * weightAt π i)
+  unfolding deserves
+  deserves-exact i j =
+      ap₂ (λ (a b : ℕ). moreDeserving a (weightAt π i) b (weightAt π j)) (service-raw i) (service-raw j)
+      ∙ deserving-exact (rawService s now i) (weightAt π i) (rawService s now j) (weightAt π j)
+      (product-below _ _ (L .services i) (L .weights j)) (product-below _ _ (L .services j) (L .weights i))
+
+  pub deserves-before : (i j : ℕ) → deserves s π now i j ≡ true → rawService s now i * weightAt π j < rawService s now j * weightAt π i
+  deserves-before i j e = ltb-true _ _ (sym (deserves-exact i j) ∙ e)
+
+  pub deserves-not : (i j : ℕ) → deserves s π now i j ≡ false → rawService s now j * weightAt π i ≤ rawService s now i * weightAt π j
+  deserves-not i j e = ltb-false _ _ (sym (deserves-exact i j) ∙ e)
+
+  pub level-ranks : (n : ℕ) → Ranks (deserves s π now) n
+  level-ranks n =
+      record {
+        irrefl = λ i l. deserves-exact i i ∙ le-ltb (S i * w i) (S i * w i) (le-refl _);
+        trans = λ i j k a b c e f.
+            deserves-exact i k
+            ∙ lt-ltb _ _ (before-trans (S i) (w i) (S j) (w j) (S k) (w k) (weight-pos π k) (deserves-before i j e) (deserves-before j k f));
+        weak = λ i j k a b c e f.
+            deserves-exact i k
+            ∙ le-ltb _ _ (after-trans (S i) (w i) (S j) (w j) (S k) (w k) (weight-pos π j) (deserves-not i j e) (deserves-not j k f));
+      }
+    where
+      S : ℕ → ℕ
+      S = rawService s now
+
+      w : ℕ → ℕ
+      w = weightAt π

@@ -1,0 +1,138 @@
+-- What an advance can still cost a pCPU: a cold runner nothing, an idle pCPU one move, a hot runner two. Each move takes one
+-- off the sum. Assumes nothing.
+use Prim.Native.Nat.{ℕ, suc, _+_, _-_, _*_, _/_, _%_, _≤_, _<_, min}
+use mathlib.Core.Bool.{Bool, true, false, cond, _&&_}
+use mathlib.Core.Path.{_≡_, refl, sym, _∙_, ap, subst}
+use mathlib.Core.Logic.{_≢_}
+use native.Mathlib.Omega.{arith}
+use lib.Dec.{ltb, leb}
+use borrow.Author.Tests.{le-leb, lt-leb}
+use Rattle.system.specs.declared.RunState.{RunState}
+use Rattle.system.specs.declared.RunState.the-variants.{Runnable, Running}
+use Rattle.system.specs.declared.VirtualCpu.{VirtualCpu}
+use Rattle.system.specs.declared.Occupant.{Occupant}
+use Rattle.system.specs.declared.Occupant.the-variants.{Idle, Vcpu}
+use Rattle.system.specs.declared.System.{System}
+use Rattle.system.specs.Reads.{vcpus, pcpus, slot, vcpuAt, occupantAt}
+use Rattle.system.specs.Writes.{Tables, Wrote}
+use Rattle.verdict.specs.Sound.{Present, OnPcpu, Holds, Sound}
+use Rattle.sched.specs.Records.{elapsed, dispatched, left}
+use Rattle.sched.specs.Legal.{stateAt, CanRun, same-pcpus, slot-of}
+use Rattle.moves.specs.Decide.{Standings}
+use Rattle.moves.specs.declared.Choice.the-variants.{Run, Preempt}
+use Rattle.policy.specs.declared.Scheduler.{Scheduler}
+use Rattle.policy.specs.Standing.{present}
+use Rattle.advance.specs.Choices.{isExpired, standings}
+use Rattle.advance.specs.Advance.{enacted}
+use Rattle.advance.specs.ChoiceLaws.{CanPreempt, present-is}
+use Rattle.advance.specs.Enacted.{run-wrote, preempt-wrote}
+use Rattle.advance.specs.Sum.{sum, sum-bound, sum-change}
+
+-- ---- who is hot
+
+abbrev pub hot : System → Scheduler → ℕ → ℕ → Bool
+hot s π now i = (standings s π now) .hot i
+
+-- hotness is a matter of the vCPU's own record
+hot-same : (s s′ : System) (π : Scheduler) (now j : ℕ) → vcpus s′ ≡ vcpus s → vcpuAt s′ j ≡ vcpuAt s j → hot s′ π now j ≡ hot s π now j
+unfolding standings
+hot-same s s′ π now j e f = rw (e, f)
+
+-- whoever was dispatched just now is cold
+dispatched-cold : (s : System) (π : Scheduler) (now j p : ℕ) (v : VirtualCpu) → 1 ≤ π .quantum → vcpuAt s j ≡ dispatched v p now → hot s π now j ≡ false
+unfolding standings dispatched
+dispatched-cold s π now j p v h e = rw (e, lt-leb (π .quantum) (now - now) (omega arith)) (off (present s j))
+  where
+    off : (b : Bool) → (b && false) ≡ false
+    off true = refl
+    off false = refl
+
+preemptible-hot : {s : System} {π : Scheduler} {now i p : ℕ} → CanPreempt s π now i p → hot s π now i ≡ true
+unfolding standings
+preemptible-hot {s} {π} {now} {i} c =
+    rw (present-is (c .present) .1) (ap (isExpired (π .quantum) (elapsed (vcpuAt s i) now)) (c .on) ∙ le-leb _ _ (c .late))
+
+-- ---- the sum
+
+abbrev pub heatOf : System → Scheduler → ℕ → Occupant → ℕ
+heatOf s π now Idle = 1
+heatOf s π now (Vcpu d v) = cond (hot s π now (slot d v)) 2 0
+
+unfoldable pub heat : System → Scheduler → ℕ → ℕ → ℕ
+heat s π now p = heatOf s π now (occupantAt s p)
+
+unfoldable pub heats : System → Scheduler → ℕ → ℕ
+heats s π now = sum (heat s π now) (pcpus s)
+
+heat-le : (s : System) (π : Scheduler) (now : ℕ) (o : Occupant) → heatOf s π now o ≤ 2
+heat-le s π now Idle = omega arith
+heat-le s π now (Vcpu d v) = go (hot s π now (slot d v))
+  where
+    go : (b : Bool) → cond b 2 0 ≤ 2
+    go true = omega arith
+    go false = omega arith
+
+pub heats-le : (s : System) (π : Scheduler) (now : ℕ) → heats s π now ≤ 2 * pcpus s
+unfolding heats heat
+heats-le s π now = sum-bound (heat s π now) 2 (pcpus s) (λ p. heat-le s π now (occupantAt s p))
+
+-- a write of slot i and pCPU p changes the heat of p alone, where i holds no other pCPU
+heats-change : {s s′ : System} {i p : ℕ} {v : VirtualCpu} {o : Occupant} (π : Scheduler) (now : ℕ) → Wrote s s′ i v p o → p < pcpus s
+    → ((q d u : ℕ) → q < pcpus s → q ≢ p → occupantAt s q ≡ Vcpu d u → slot d u ≢ i)
+    → heats s π now + heat s′ π now p ≡ heats s′ π now + heat s π now p
+unfolding heats heat
+heats-change {s} {s′} {i} {p} {v} {o} π now w l alone =
+    omega (arith, ap (sum (heat s′ π now)) (same-pcpus (w .shape)), sum-change (heat s π now) (heat s′ π now) (pcpus s) p l same)
+  where
+    by : (q : ℕ) → q < pcpus s → q ≢ p → (x : Occupant) → occupantAt s q ≡ x → heatOf s π now x ≡ heatOf s′ π now x
+    by q m n Idle e = refl
+    by q m n (Vcpu d u) e =
+        let j = slot d u in
+        let e = hot-same s s′ π now j (ap (λ (k : ℕ). min k 8) (w .shape .vcpus)) (w .there j (alone q d u m n e)) in
+        ap (λ (b : Bool). cond b 2 0) (sym e)
+
+    same : (q : ℕ) → q < pcpus s → q ≢ p → heat s π now q ≡ heat s′ π now q
+    same q m n = rw (w .others q n) (by q m n (occupantAt s q) refl)
+
+pub run-heats : (s : System) (π : Scheduler) (now i p : ℕ) → 1 ≤ π .quantum → Tables s → Sound s → CanRun s i p
+    → suc (heats ((enacted s now (Run i p)) .system) π now) ≡ heats s π now
+unfolding heat
+run-heats s π now i p h t S c = omega (arith, heats-change π now w (c .exists) alone, before, after)
+  where
+    s′ : System
+    s′ = (enacted s now (Run i p)) .system
+
+    w : Wrote s s′ i (dispatched (vcpuAt s i) p now) p (Vcpu (i / 8) (i % 8))
+    w = run-wrote s now i p t c
+
+    alone : (q d u : ℕ) → q < pcpus s → q ≢ p → occupantAt s q ≡ Vcpu d u → slot d u ≢ i
+    alone q d u m n e x = let g = S .held q d u m e in let r = g .on in let y = c .ready in let z : _≡_ {A = ℕ} 0 1 = cc in omega arith
+
+    before : heat s π now p ≡ 1
+    before = rw (c .free)
+
+    after : heat s′ π now p ≡ 0
+    after = rw (w .onto, slot-of i, dispatched-cold s′ π now i p (vcpuAt s i) h (w .here))
+
+pub preempt-heats : (s : System) (π : Scheduler) (now i p : ℕ) → Tables s → Sound s → CanPreempt s π now i p
+    → suc (heats ((enacted s now (Preempt i p)) .system) π now) ≡ heats s π now
+unfolding heat
+preempt-heats s π now i p t S c = omega (arith, heats-change π now w (o .exists) alone, before, after)
+  where
+    s′ : System
+    s′ = (enacted s now (Preempt i p)) .system
+
+    o : OnPcpu s i p
+    o = S .runs i p (c .present) (c .on)
+
+    w : Wrote s s′ i (left (vcpuAt s i) Runnable now) p Idle
+    w = preempt-wrote s now i p π t S c
+
+    alone : (q d u : ℕ) → q < pcpus s → q ≢ p → occupantAt s q ≡ Vcpu d u → slot d u ≢ i
+    alone q d u m n e x = let g = S .held q d u m e in let r = g .on in let y = c .on in n (cc)
+
+    before : heat s π now p ≡ 2
+    before = rw (o .back, slot-of i, preemptible-hot c)
+
+    after : heat s′ π now p ≡ 1
+    after = rw (w .onto)

@@ -1,0 +1,11 @@
+pub mod Choices
+pub mod Advance
+pub mod ChoiceLaws
+pub mod Enacted
+pub mod Sum
+pub mod Heat
+pub mod Settles
+pub mod Cross
+pub mod Exact
+pub mod Lag
+pub mod LagMoves

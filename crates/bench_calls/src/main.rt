@@ -1,0 +1,70 @@
+//! Transitions of a full host, for timing: as many rounds as the 4 bytes of standard input say, big-endian.
+//! Each round is four calls; what is printed is how many of the last of them were done.
+
+ghost use Prim.Native.Nat.{_<_};
+use system::Answer;
+use system::System;
+
+fn one_if_done(answer: Answer) -> u64 {
+    match answer {
+        Answer::Done => 1,
+        Answer::BadDomain => 0,
+        Answer::BadVcpu => 0,
+        Answer::BadPcpu => 0,
+        Answer::WrongState => 0,
+        Answer::PcpuBusy => 0,
+        Answer::NotAffine => 0,
+        Answer::TooLarge => 0,
+        Answer::Unsound => 0,
+        Answer::BadScript => 0,
+    }
+}
+
+// 16 domains of 8 vCPUs on 64 pCPUs: all admitted, the first 64 running.
+fn full_host() -> System {
+    let mut s = System::new(16, 8, 64).system;
+    let mut i: usize = 0;
+    while i < 128 {
+        let dom = (i / 8 % 16) as u16;
+        let vcpu = (i % 8) as u32;
+        s = sched::admit(s, dom, vcpu).system;
+        if i < 64 {
+            s = sched::run(s, dom, vcpu, (i % 64) as u32, 0).system;
+        }
+        i += 1;
+    }
+    s
+}
+
+// A waiting vCPU blocks and wakes; a running one is preempted and runs again.
+fn rounds_of(mut s: System, rounds: u64) -> u64 {
+    let mut done: u64 = 0;
+    let mut k: u64 = 0;
+    while k < rounds {
+        s = sched::block(s, 15, 7, k).system;
+        s = sched::wake(s, 15, 7).system;
+        s = sched::preempt(s, 0, 0, k).system;
+        let dispatched = sched::run(s, 0, 0, 0, k);
+        s = dispatched.system;
+        let answer = dispatched.answer;
+        done = std::num::wrapping_add_u64(done, one_if_done(answer));
+        k += 1;
+    }
+    done
+}
+
+fn wide(b: u8) -> u64
+    ensures { λ r. ⌜ r < 256 ⌝ }
+{
+    b as u64
+}
+
+fn main() {
+    let mut b = [0u8; 4];
+    let got = io::read_full(libc::STDIN_FILENO, &mut b);
+    let rounds = wide(b[0]) * 0x100_0000 + wide(b[1]) * 0x1_0000 + wide(b[2]) * 0x100 + wide(b[3]);
+    if got == 4 {
+        io::print_decimal(libc::STDOUT_FILENO, rounds_of(full_host(), rounds));
+        io::write_all(libc::STDOUT_FILENO, b"\n");
+    }
+}

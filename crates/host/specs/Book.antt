@@ -1,0 +1,168 @@
+-- The book: the records that the calls alone imply. It reads no system; of an advance it is handed the moves.
+use Prim.Native.Nat.{ℕ, zero, suc, _+_, _-_, _*_, _/_, _%_, _^_, min}
+use mathlib.Core.Bool.{Bool, true, false, cond, not, _&&_}
+use mathlib.Core.List.{List, [], _∷_}
+use lib.Dec.{ltb, eqb}
+use Rattle.masks.specs.Masks.{permits, fullMask, clipped}
+use Rattle.system.specs.declared.RunState.{RunState}
+use Rattle.system.specs.declared.RunState.the-variants.{Offline, Runnable, Running, Blocked}
+use Rattle.system.specs.declared.Occupant.{Occupant}
+use Rattle.system.specs.declared.Occupant.the-variants.{Idle, Vcpu}
+use Rattle.moves.specs.declared.Choice.{Choice}
+use Rattle.moves.specs.declared.Choice.the-variants.{Run, Preempt, Rest}
+use Rattle.moves.specs.Scan.{Pick, nobody, at, scan, some}
+use Rattle.moves.specs.Decide.{never}
+use Rattle.host.specs.declared.Call.{Call}
+
+-- what the book has of a vCPU: its state, its run time, the clock of its run, its mask
+pub record Line : Type 0 where
+  pub state : RunState
+  pub time : ℕ
+  pub clock : ℕ
+  pub mask : ℕ
+
+-- the line of vCPU d/v stands at d × 8 + v
+abbrev pub Book : Type 0
+Book = ℕ → Line
+
+pub record Shape : Type 0 where
+  pub domains : ℕ
+  pub vcpus : ℕ
+  pub pcpus : ℕ
+
+-- at first all are Offline with nothing run and every pCPU admitted
+abbrev pub blank : Shape → Book
+blank k i = record { state = Offline; time = 0; clock = 0; mask = fullMask (k .pcpus) }
+
+abbrev pub noted : Book → ℕ → Line → Book
+noted b i l j = cond (eqb j i) l (b j)
+
+-- ---- lines written anew
+
+abbrev pub marked : Line → RunState → Line
+marked l st = record { state = st; time = l .time; clock = l .clock; mask = l .mask }
+
+abbrev pub remasked : Line → ℕ → Line
+remasked l m = record { state = l .state; time = l .time; clock = l .clock; mask = m }
+
+-- onto pCPU p, from that clock
+abbrev pub opened : Line → ℕ → ℕ → Line
+opened l p now = record { state = Running p; time = l .time; clock = now; mask = l .mask }
+
+-- coming off adds max(0, now − the run's clock), held at 2^64 − 1
+abbrev pub closed : Line → RunState → ℕ → Line
+closed l st now = record { state = st; time = min (l .time + (now - l .clock)) (2 ^ 64 - 1); clock = l .clock; mask = l .mask }
+
+-- ---- who holds a pCPU: whoever is Running on it
+
+abbrev pub runsOn : ℕ → RunState → Bool
+runsOn p Offline = false
+runsOn p Runnable = false
+runsOn p (Running q) = eqb q p
+runsOn p Blocked = false
+
+unfoldable pub holder : Shape → Book → ℕ → Pick
+holder k b p = scan (λ i. ltb (i % 8) (k .vcpus) && runsOn p ((b i) .state)) never (k .domains * 8)
+
+abbrev pub occupantBy : Pick → Occupant
+occupantBy nobody = Idle
+occupantBy (at i) = Vcpu (i / 8) (i % 8)
+
+-- ---- what a call writes, and what it is told
+
+-- nothing but a number, or a line
+pub data Note : Type 0 where
+  refuse : ℕ → Note
+  write : Line → Note
+
+pub record Entry : Type 0 where
+  pub number : ℕ
+  pub book : Book
+
+abbrev pub entered : Book → ℕ → Note → Entry
+entered b i (refuse k) = record { number = k; book = b }
+entered b i (write l) = record { number = 0; book = noted b i l }
+
+-- ids out of range: 1 for the domain, then 2 for the vCPU
+abbrev pub identified : Shape → Book → ℕ → ℕ → Note → Entry
+identified k b d v n =
+    cond (ltb d (k .domains)) (cond (ltb v (k .vcpus)) (entered b (d * 8 + v) n) (record { number = 2; book = b })) (record { number = 1; book = b })
+
+abbrev pub admitNote : Line → RunState → Note
+admitNote l Offline = write (marked l Runnable)
+admitNote l Runnable = refuse 4
+admitNote l (Running p) = refuse 4
+admitNote l Blocked = refuse 4
+
+abbrev pub runNote : Line → ℕ → Bool → ℕ → RunState → Note
+runNote l p busy now Offline = refuse 4
+runNote l p busy now Runnable = cond (permits (l .mask) p) (cond busy (refuse 5) (write (opened l p now))) (refuse 6)
+runNote l p busy now (Running q) = refuse 4
+runNote l p busy now Blocked = refuse 4
+
+abbrev pub preemptNote : Line → ℕ → RunState → Note
+preemptNote l now Offline = refuse 4
+preemptNote l now Runnable = refuse 4
+preemptNote l now (Running p) = write (closed l Runnable now)
+preemptNote l now Blocked = refuse 4
+
+abbrev pub blockNote : Line → ℕ → RunState → Note
+blockNote l now Offline = refuse 4
+blockNote l now Runnable = write (marked l Blocked)
+blockNote l now (Running p) = write (closed l Blocked now)
+blockNote l now Blocked = refuse 4
+
+abbrev pub wakeNote : Line → RunState → Note
+wakeNote l Offline = refuse 4
+wakeNote l Runnable = refuse 4
+wakeNote l (Running p) = refuse 4
+wakeNote l Blocked = write (marked l Runnable)
+
+abbrev pub offlineNote : Line → ℕ → ℕ → RunState → Note
+offlineNote l full now Offline = refuse 4
+offlineNote l full now Runnable = write (remasked (marked l Offline) full)
+offlineNote l full now (Running p) = write (remasked (closed l Offline now) full)
+offlineNote l full now Blocked = write (remasked (marked l Offline) full)
+
+abbrev pub maskNote : Line → ℕ → RunState → Note
+maskNote l m Offline = write (remasked l m)
+maskNote l m Runnable = write (remasked l m)
+maskNote l m (Running p) = cond (permits m p) (write (remasked l m)) (refuse 6)
+maskNote l m Blocked = write (remasked l m)
+
+-- the first n vCPUs of domain d taken offline; one that is Offline stays as it is
+unfoldable pub offlineLines : Shape → Book → ℕ → ℕ → ℕ → Book
+offlineLines k b d now zero = b
+offlineLines k b d now (suc n) =
+    let c = offlineLines k b d now n in
+    let l = c (d * 8 + n) in
+    (entered c (d * 8 + n) (offlineNote l (fullMask (k .pcpus)) now (l .state))) .book
+
+-- an advance's moves, in order, at its clock
+abbrev pub moved : Book → ℕ → Choice → Book
+moved b now (Run i p) = noted b i (opened (b i) p now)
+moved b now (Preempt i p) = noted b i (closed (b i) Runnable now)
+moved b now Rest = b
+
+unfoldable pub movedAll : Book → ℕ → List Choice → Book
+movedAll b now [] = b
+movedAll b now (c ∷ cs) = movedAll (moved b now c) now cs
+
+-- a call, with the moves that it enacted
+unfoldable pub enter : Shape → Book → Call → List Choice → Entry
+enter k b (Call.Admit d v) ms = let l = b (d * 8 + v) in identified k b d v (admitNote l (l .state))
+enter k b (Call.Run d v p now) ms =
+    let l = b (d * 8 + v) in
+    cond (ltb p (k .pcpus)) (identified k b d v (runNote l p (some (holder k b p)) now (l .state))) (record { number = 3; book = b })
+enter k b (Call.Preempt d v now) ms = let l = b (d * 8 + v) in identified k b d v (preemptNote l now (l .state))
+enter k b (Call.Block d v now) ms = let l = b (d * 8 + v) in identified k b d v (blockNote l now (l .state))
+enter k b (Call.Wake d v) ms = let l = b (d * 8 + v) in identified k b d v (wakeNote l (l .state))
+enter k b (Call.Offline d v now) ms =
+    let l = b (d * 8 + v) in identified k b d v (offlineNote l (fullMask (k .pcpus)) now (l .state))
+enter k b (Call.OfflineAll d now) ms =
+    record { number = 0; book = cond (ltb d (k .domains)) (offlineLines k b d now (k .vcpus)) b }
+enter k b (Call.SetAffinity d v m) ms =
+    let l = b (d * 8 + v) in identified k b d v (maskNote l (clipped m (k .pcpus)) (l .state))
+enter k b (Call.SetWeight d v w) ms = record { number = 0; book = b }
+enter k b (Call.SetWakeBoost on) ms = record { number = 0; book = b }
+enter k b (Call.Advance now) ms = record { number = 0; book = movedAll b now ms }

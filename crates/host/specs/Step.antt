@@ -1,0 +1,51 @@
+-- A host, its calls, and what one call does.
+use Prim.Native.Nat.{ℕ}
+use mathlib.Core.List.{List, [], _∷_}
+use Rattle.system.specs.declared.System.{System}
+use Rattle.system.specs.Answers.{Outcome}
+use Rattle.system.specs.Shape.{fresh}
+use Rattle.sched.specs.Steps as sched
+use Rattle.moves.specs.declared.Choice.{Choice}
+use Rattle.policy.specs.declared.Scheduler.{Scheduler}
+use Rattle.policy.specs.Accounts.{freshPolicy, setWeight, setWakeBoost}
+use Rattle.advance.specs.Advance as policy
+use Rattle.host.specs.declared.Host.{Host}
+use Rattle.host.specs.declared.Call.{Call}
+
+-- what a call is told, the host that it leaves, and the moves that it enacted, in order (none but by an advance)
+pub record Step : Type 0 where
+  pub number : ℕ
+  pub host : Host
+  pub moves : List Choice
+
+-- a call of the mechanism, and one of the policy
+abbrev pub bySystem : Host → Outcome → Step
+bySystem h r = record { number = r .number; host = record { system = r .system; scheduler = h .scheduler }; moves = [] }
+
+abbrev pub byPolicy : Host → Scheduler → Step
+byPolicy h π = record { number = 0; host = record { system = h .system; scheduler = π }; moves = [] }
+
+abbrev pub byAdvance : policy.Advance → Step
+byAdvance r = record { number = r .number; host = record { system = r .system; scheduler = r .policy }; moves = r .moves }
+
+unfoldable pub step : Host → Call → Step
+step h (Call.Admit d v) = bySystem h (sched.admit (h .system) d v)
+step h (Call.Run d v p now) = bySystem h (sched.run (h .system) d v p now)
+step h (Call.Preempt d v now) = bySystem h (sched.preempt (h .system) d v now)
+step h (Call.Block d v now) = bySystem h (sched.block (h .system) d v now)
+step h (Call.Wake d v) = bySystem h (sched.wake (h .system) d v)
+step h (Call.Offline d v now) = bySystem h (sched.offline (h .system) d v now)
+step h (Call.OfflineAll d now) = bySystem h (sched.offlineAll (h .system) d now)
+step h (Call.SetAffinity d v m) = bySystem h (sched.setAffinity (h .system) d v m)
+step h (Call.SetWeight d v w) = byPolicy h (setWeight (h .scheduler) d v w)
+step h (Call.SetWakeBoost on) = byPolicy h (setWakeBoost (h .scheduler) on)
+step h (Call.Advance now) = byAdvance (policy.advance (h .system) (h .scheduler) now)
+
+-- the host after a list of calls
+unfoldable pub after : Host → List Call → Host
+after h [] = h
+after h (c ∷ cs) = after ((step h c) .host) cs
+
+-- a host as built: d domains of v vCPUs on p pCPUs; a policy of e domains of u vCPUs with slice q
+abbrev pub freshHost : ℕ → ℕ → ℕ → ℕ → ℕ → ℕ → Host
+freshHost d v p e u q = record { system = fresh d v p; scheduler = freshPolicy e u q }

@@ -1,0 +1,58 @@
+-- The decision: whom to dispatch onto which idle pCPU; else whom to preempt; else neither. It is made over what is known of
+-- each slot below n (who waits, who is hot: runs and may be preempted, where it runs, its mask, who beats whom) and of each
+-- pCPU (whether it is idle), however that is got.
+use Prim.Native.Nat.{ℕ}
+use mathlib.Core.Bool.{Bool, _&&_}
+use lib.Dec.{ltb}
+use Rattle.masks.specs.Masks.{permits, first}
+use Rattle.moves.specs.declared.Choice.{Choice}
+use Rattle.moves.specs.declared.Choice.the-variants.{Run, Preempt, Rest}
+use Rattle.moves.specs.Scan.{Pick, nobody, at, scan, some}
+
+-- what is known of the slots and the pCPUs
+pub record Standings : Type 0 where
+  pub waits : ℕ → Bool
+  pub hot : ℕ → Bool
+  pub on : ℕ → ℕ
+  pub mask : ℕ → ℕ
+  pub beats : ℕ → ℕ → Bool
+  pub idle : ℕ → Bool
+
+-- a test that any index passes and none is better by
+abbrev pub never : ℕ → ℕ → Bool
+never k j = Bool.false
+
+-- the lowest-numbered idle pCPU that the mask of i admits, or 64
+unfoldable pub placement : Standings → ℕ → ℕ
+placement t i = first (λ p. t .idle p && permits (t .mask i) p) 64
+
+-- i waits and has a placement
+unfoldable pub placeable : Standings → ℕ → Bool
+placeable t i = t .waits i && ltb (placement t i) 64
+
+-- some waiter whose mask admits the pCPU of i beats it
+unfoldable pub beaten : Standings → ℕ → ℕ → Bool
+beaten t n i = some (scan (λ j. t .waits j && (permits (t .mask j) (t .on i) && t .beats j i)) never n)
+
+-- i is hot and beaten
+unfoldable pub loses : Standings → ℕ → ℕ → Bool
+loses t n i = t .hot i && beaten t n i
+
+-- the most deserving that can be placed
+unfoldable pub chosen : Standings → ℕ → Pick
+chosen t n = scan (placeable t) (t .beats) n
+
+-- the least deserving that loses
+unfoldable pub victim : Standings → ℕ → Pick
+victim t n = scan (loses t n) (λ k j. t .beats j k) n
+
+abbrev pub orPreempt : Standings → Pick → Choice
+orPreempt t nobody = Rest
+orPreempt t (at i) = Preempt i (t .on i)
+
+abbrev pub orRun : Standings → Pick → Choice → Choice
+orRun t nobody r = r
+orRun t (at i) r = Run i (placement t i)
+
+unfoldable pub decide : Standings → ℕ → Choice
+decide t n = orRun t (chosen t n) (orPreempt t (victim t n))

@@ -1,0 +1,233 @@
+-- Laws of the decision. Everything above this crate goes by these and not by the decision's text. Assumes nothing.
+use Prim.Native.Nat.{ℕ, _≤_, _<_}
+use mathlib.Core.Bool.{Bool, true, false, _&&_, true≢false, false≢true}
+use mathlib.Core.Path.{_≡_, refl, sym, _∙_, ap}
+use native.Mathlib.Nat.{le-refl, lt-of-not-le}
+use native.Mathlib.Decide.{decLe}
+use native.Mathlib.Omega.{arith}
+use lib.Dec.{ltb}
+use borrow.Author.Tests.{ltb-true, lt-ltb}
+use Rattle.masks.specs.Masks.{permits, first}
+use Rattle.masks.specs.Laws.{Least, first-least}
+use Rattle.moves.specs.declared.Choice.{Choice}
+use Rattle.moves.specs.declared.Choice.the-variants.{Run, Preempt, Rest}
+use Rattle.moves.specs.Scan.{Pick, nobody, at, scan, some, scan-sound, scan-complete, scan-least, scan-earliest, Ranks}
+use Rattle.moves.specs.Decide.{Standings, never, placement, placeable, beaten, loses, chosen, victim, orPreempt, orRun, decide}
+
+-- i waits, and may use pCPU p now
+pub record Fits (t : Standings) (i p : ℕ) : Type 0 where
+  pub waits : t .waits i ≡ true
+  pub word : p < 64
+  pub idle : t .idle p ≡ true
+  pub admits : permits (t .mask i) p ≡ true
+
+-- j waits, its mask admits the pCPU of i, and it beats i
+pub record Beats (t : Standings) (n i j : ℕ) : Type 0 where
+  pub below : j < n
+  pub waits : t .waits j ≡ true
+  pub admits : permits (t .mask j) (t .on i) ≡ true
+  pub wins : t .beats j i ≡ true
+
+both : (a b : Bool) → (a && b) ≡ true → (a ≡ true) × (b ≡ true)
+both true b e = (refl, e)
+both false b e = absurd (false≢true e)
+
+all-two : {a b : Bool} → a ≡ true → b ≡ true → (a && b) ≡ true
+all-two e f = rw (e, f)
+
+-- ---- placement: what it gives fits, and it gives one if one fits
+
+pub placement-fits : (t : Standings) (i : ℕ) → t .waits i ≡ true → placement t i < 64 → Fits t i (placement t i)
+unfolding placement
+placement-fits t i w l =
+    let f = both _ _ (first-least (λ p. t .idle p && permits (t .mask i) p) 64 .found l) in
+    record { waits = w; word = l; idle = f .0; admits = f .1 }
+
+pub placement-finds : (t : Standings) (i p : ℕ) → Fits t i p → placement t i ≤ p
+unfolding placement
+placement-finds t i p f = go (decLe (first g 64) p)
+  where
+    g : ℕ → Bool
+    g q = t .idle q && permits (t .mask i) q
+
+    go : Dec (first g 64 ≤ p) → first g 64 ≤ p
+    go (yes h) = h
+    go (no n) = absurd (true≢false (sym (all-two (f .idle) (f .admits)) ∙ first-least g 64 .before p (lt-of-not-le n)))
+
+placeable-fits : (t : Standings) (i : ℕ) → placeable t i ≡ true → Fits t i (placement t i)
+unfolding placeable
+placeable-fits t i e = let f = both _ _ e in placement-fits t i (f .0) (ltb-true _ _ (f .1))
+
+fits-placeable : (t : Standings) (i p : ℕ) → Fits t i p → placeable t i ≡ true
+unfolding placeable
+fits-placeable t i p f = let w = f .word in all-two (f .waits) (lt-ltb (placement t i) 64 (omega (arith, placement-finds t i p f)))
+
+-- ---- being beaten
+
+is-some : (r : Pick) → some r ≡ true → (k : ℕ) × (r ≡ at k)
+is-some nobody e = absurd (false≢true e)
+is-some (at k) e = (k, refl)
+
+beaten-by : (t : Standings) (n i : ℕ) → beaten t n i ≡ true → (j : ℕ) × Beats t n i j
+unfolding beaten
+beaten-by t n i e =
+    let k = is-some _ e in
+    let f = scan-sound (λ j. t .waits j && (permits (t .mask j) (t .on i) && t .beats j i)) never n (k .0) (k .1) in
+    let a = both _ _ (f .1) in
+    let b = both _ _ (a .1) in
+    (k .0, record { below = f .0; waits = a .0; admits = b .0; wins = b .1 })
+
+by-beaten : (t : Standings) (n i j : ℕ) → Beats t n i j → beaten t n i ≡ true
+unfolding beaten
+by-beaten t n i j b = go (scan test never n) refl
+  where
+    test : ℕ → Bool
+    test k = t .waits k && (permits (t .mask k) (t .on i) && t .beats k i)
+
+    go : (r : Pick) → scan test never n ≡ r → some r ≡ true
+    go nobody e = absurd (scan-complete test never n j (b .below) (all-two (b .waits) (all-two (b .admits) (b .wins))) e)
+    go (at k) e = refl
+
+-- ---- why a decision was made
+
+pub data Why (t : Standings) (n : ℕ) : Choice → Type 0 where
+  ran : {i : ℕ} → i < n → Fits t i (placement t i) → chosen t n ≡ at i → Why t n (Run i (placement t i))
+  stopped : {i : ℕ} → i < n → t .hot i ≡ true → beaten t n i ≡ true → chosen t n ≡ nobody → victim t n ≡ at i
+      → Why t n (Preempt i (t .on i))
+  rested : chosen t n ≡ nobody → victim t n ≡ nobody → Why t n Rest
+
+why : (t : Standings) (n : ℕ) → Why t n (decide t n)
+unfolding decide chosen victim loses
+why t n = go (scan (placeable t) (t .beats) n) refl (scan (loses t n) (λ k j. t .beats j k) n) refl
+  where
+    go : (r : Pick) → scan (placeable t) (t .beats) n ≡ r → (q : Pick) → scan (loses t n) (λ k j. t .beats j k) n ≡ q
+        → Why t n (orRun t r (orPreempt t q))
+    go (at i) e q f = let h = scan-sound (placeable t) (t .beats) n i e in ran (h .0) (placeable-fits t i (h .1)) e
+    go nobody e (at i) f =
+        let h = scan-sound (loses t n) (λ k j. t .beats j k) n i f in
+        let g = both _ _ (h .1) in
+        stopped (h .0) (g .0) (g .1) e f
+    go nobody e nobody f = rested e f
+
+-- nobody is chosen only if nobody fits
+chosen-complete : (t : Standings) (n i p : ℕ) → i < n → Fits t i p → chosen t n ≡ nobody → ⊥
+unfolding chosen
+chosen-complete t n i p l f e = scan-complete (placeable t) (t .beats) n i l (fits-placeable t i p f) e
+
+-- ---- the laws
+
+-- a Run is of one that waits, onto an idle pCPU that its mask admits
+pub run-fits : (t : Standings) (n i p : ℕ) → decide t n ≡ Run i p → (i < n) × Fits t i p
+run-fits t n i p e = go (why t n) e
+  where
+    go : {d : Choice} → Why t n d → d ≡ Run i p → (i < n) × Fits t i p
+    go (ran {i = j} l f c) h = let a : j ≡ i = cc in let b : placement t j ≡ p = cc in rw (← a, ← b) (l, f)
+    go (stopped l h b c v) g = absurd (let z : _≡_ {A = ℕ} 0 1 = cc in omega arith)
+    go (rested c v) g = absurd (let z : _≡_ {A = ℕ} 0 1 = cc in omega arith)
+
+-- the decision is a Run
+pub record IsRun (d : Choice) : Type 0 where
+  pub who : ℕ
+  pub onto : ℕ
+  pub is : d ≡ Run who onto
+
+-- it is one if anybody who waits may use an idle pCPU
+pub run-found : (t : Standings) (n i p : ℕ) → i < n → Fits t i p → IsRun (decide t n)
+run-found t n i p l f = go (why t n)
+  where
+    go : {d : Choice} → Why t n d → IsRun d
+    go (ran {i = j} k g c) = record { who = j; onto = placement t j; is = refl }
+    go (stopped k h b c v) = absurd (chosen-complete t n i p l f c)
+    go (rested c v) = absurd (chosen-complete t n i p l f c)
+
+-- a Preempt is of one that is hot, where it runs, and that a waiter beats who may run there; nobody could be placed
+pub record IsStopped (t : Standings) (n i p : ℕ) : Type 0 where
+  pub below : i < n
+  pub hot : t .hot i ≡ true
+  pub on : t .on i ≡ p
+  pub by : ℕ
+  pub beats : Beats t n i by
+
+pub preempt-beaten : (t : Standings) (n i p : ℕ) → decide t n ≡ Preempt i p → IsStopped t n i p
+preempt-beaten t n i p e = go (why t n) e
+  where
+    go : {d : Choice} → Why t n d → d ≡ Preempt i p → IsStopped t n i p
+    go (ran l f c) g = absurd (let z : _≡_ {A = ℕ} 0 1 = cc in omega arith)
+    go (stopped {i = j} l h b c v) g =
+        let a : j ≡ i = cc in
+        let q : t .on j ≡ p = cc in
+        let k = beaten-by t n j b in
+        rw (← a) (record { below = l; hot = h; on = q; by = k .0; beats = k .1 })
+    go (rested c v) g = absurd (let z : _≡_ {A = ℕ} 0 1 = cc in omega arith)
+
+-- at Rest nobody who waits may use an idle pCPU
+pub rest-placed : (t : Standings) (n i p : ℕ) → decide t n ≡ Rest → i < n → Fits t i p → ⊥
+rest-placed t n i p e l f = let r = run-found t n i p l f in let z : _≡_ {A = ℕ} 0 1 = cc in omega arith
+
+-- and nobody hot is beaten by a waiter who may run there
+pub rest-unbeaten : (t : Standings) (n i j : ℕ) → decide t n ≡ Rest → i < n → t .hot i ≡ true → Beats t n i j → ⊥
+unfolding victim loses
+rest-unbeaten t n i j e l h b = go (why t n) e
+  where
+    lost : victim t n ≡ nobody → ⊥
+    lost v = scan-complete (loses t n) (λ k j. t .beats j k) n i l (all-two h (by-beaten t n i j b)) v
+
+    go : {d : Choice} → Why t n d → d ≡ Rest → ⊥
+    go (ran k f c) g = let z : _≡_ {A = ℕ} 0 1 = cc in omega arith
+    go (stopped k x y c v) g = let z : _≡_ {A = ℕ} 0 1 = cc in omega arith
+    go (rested c v) g = lost v
+
+-- ---- where `beats` ranks, the pick is the most deserving and the victim the least deserving, the earliest among equals
+
+turned : {b : ℕ → ℕ → Bool} {n : ℕ} → Ranks b n → Ranks (λ k j. b j k) n
+turned R =
+    record {
+      irrefl = R .irrefl;
+      trans = λ i j k x y z e f. R .trans k j i z y x f e;
+      weak = λ i j k x y z e f. R .weak k j i z y x f e;
+    }
+
+module _ (t : Standings) (n : ℕ) (R : Ranks (t .beats) n) where
+  pub pick-least : (i p j q : ℕ) → decide t n ≡ Run i p → j < n → Fits t j q → t .beats j i ≡ false
+  unfolding chosen
+  pick-least i p j q e l f = go (why t n) e
+    where
+      go : {d : Choice} → Why t n d → d ≡ Run i p → t .beats j i ≡ false
+      go (ran {i = k} m g c) h =
+          let a : k ≡ i = cc in
+          rw (← a) (scan-least (placeable t) (t .beats) n R n k j (le-refl n) c l (fits-placeable t j q f))
+      go (stopped m x y c v) h = absurd (let z : _≡_ {A = ℕ} 0 1 = cc in omega arith)
+      go (rested c v) h = absurd (let z : _≡_ {A = ℕ} 0 1 = cc in omega arith)
+
+  pub pick-earliest : (i p j q : ℕ) → decide t n ≡ Run i p → j < i → Fits t j q → t .beats i j ≡ true
+  unfolding chosen
+  pick-earliest i p j q e l f = go (why t n) e
+    where
+      go : {d : Choice} → Why t n d → d ≡ Run i p → t .beats i j ≡ true
+      go (ran {i = k} m g c) h =
+          let a : k ≡ i = cc in
+          rw (← a) (scan-earliest (placeable t) (t .beats) n R n k j (le-refl n) c (omega arith) (fits-placeable t j q f))
+      go (stopped m x y c v) h = absurd (let z : _≡_ {A = ℕ} 0 1 = cc in omega arith)
+      go (rested c v) h = absurd (let z : _≡_ {A = ℕ} 0 1 = cc in omega arith)
+
+  pub victim-worst : (i p j k : ℕ) → decide t n ≡ Preempt i p → j < n → t .hot j ≡ true → Beats t n j k → t .beats i j ≡ false
+  unfolding victim loses
+  victim-worst i p j k e l h b = go (why t n) e
+    where
+      go : {d : Choice} → Why t n d → d ≡ Preempt i p → t .beats i j ≡ false
+      go (ran m g c) f = absurd (let z : _≡_ {A = ℕ} 0 1 = cc in omega arith)
+      go (stopped {i = x} m y z c v) f =
+          let a : x ≡ i = cc in
+          rw (← a) (scan-least (loses t n) (λ u w. t .beats w u) n (turned R) n x j (le-refl n) v l (all-two h (by-beaten t n j k b)))
+      go (rested c v) f = absurd (let z : _≡_ {A = ℕ} 0 1 = cc in omega arith)
+
+  pub victim-earliest : (i p j k : ℕ) → decide t n ≡ Preempt i p → j < i → t .hot j ≡ true → Beats t n j k → t .beats j i ≡ true
+  unfolding victim loses
+  victim-earliest i p j k e l h b = go (why t n) e
+    where
+      go : {d : Choice} → Why t n d → d ≡ Preempt i p → t .beats j i ≡ true
+      go (ran m g c) f = absurd (let z : _≡_ {A = ℕ} 0 1 = cc in omega arith)
+      go (stopped {i = x} m y z c v) f =
+          let a : x ≡ i = cc in
+          rw (← a) (scan-earliest (loses t n) (λ u w. t .beats w u) n (turned R) n x j (le-refl n) v (omega arith) (all-two h (by-beaten t n j k b)))
+      go (rested c v) f = absurd (let z : _≡_ {A = ℕ} 0 1 = cc in omega arith)
