@@ -1,5 +1,6 @@
 pub mod Choices
 pub mod Advance
+pub mod Told
 pub mod ChoiceLaws
 pub mod Enacted
 pub mod Sum
@@ -9,3 +10,7 @@ pub mod Cross
 pub mod Exact
 pub mod Lag
 pub mod LagMoves
+pub mod Stores
+pub mod Rows
+pub mod Moves
+pub mod Going

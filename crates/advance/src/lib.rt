@@ -1,12 +1,365 @@
 //! The moves: what to do next, and an advance that does it until nothing is left to do.
 
+ghost use mathlib.Core.Path.{_≡_};
+ghost use mathlib.Core.Bool.{true};
+ghost use Prim.Native.Nat.{_+_, _*_, _≤_, min};
+ghost use Rattle.verdict.specs.Violations.{invariantsHold};
+ghost use Rattle.moves.specs.Decide.{decide};
+ghost use Rattle.moves.specs.Table.{tabled};
+ghost use Rattle.advance.specs.Advance.{limit, next, advance};
+ghost use Rattle.advance.specs.Told.{recommended, advanced, counted};
+ghost use Rattle.system.specs.Reads.{isIdle};
+ghost use Rattle.advance.specs.Rows.{kindOf, Tabulates, idleSet};
+ghost use Rattle.advance.specs.Moves.{namedAs, slotIn, ontoIn, recordAfter, occupantAfter, cleared, freed, isRest, Settles};
+use moves::Choice;
+use policy::Scheduler;
+use system::Answer;
 use system::DomId;
+use system::Occupant;
 use system::Pcpu;
+use system::PhysicalCpu;
+use system::RunState;
+use system::System;
+use system::Ticks;
 use system::Vcpu;
+use system::VirtualCpu;
 
 /// What `next` recommends.
 pub enum Decision {
     Run { dom: DomId, vcpu: Vcpu, pcpu: Pcpu },
     Preempt { dom: DomId, vcpu: Vcpu, pcpu: Pcpu },
     Idle,
+}
+
+/// An answer, and what is recommended.
+pub struct Recommendation {
+    pub answer: Answer,
+    pub decision: Decision,
+}
+
+/// An answer, the system and the policy that an advance leaves, and how many moves it enacted.
+pub struct Advanced {
+    pub answer: Answer,
+    pub system: System,
+    pub scheduler: Scheduler,
+    pub count: usize,
+}
+
+// The standing of each slot, as arrays that a decision is lent.
+struct Table {
+    kind: [u32; 128],
+    mask: [u64; 128],
+    service: [u32; 512],
+    weight: [u32; 128],
+}
+
+// A system with no move left, and how many were made.
+struct Settled {
+    system: System,
+    count: usize,
+}
+
+fn least(a: usize, b: usize) -> usize
+    ensures { λ r. ⌜ r ≡ min a b ⌝ }
+{
+    if a < b { a } else { b }
+}
+
+// ---- the table of standings
+
+// 1 for a vCPU that waits, p + 2 for one that has held pCPU p for the slice, 0 for any other.
+fn kind_of(v: VirtualCpu, present: bool, quantum: Ticks, now: Ticks) -> u32
+    ensures { λ r. ⌜ r ≡ kindOf present quantum now v ⌝ }
+{
+    let state = v.state;
+    if !present {
+        return 0;
+    }
+    match state {
+        RunState::Offline => 0,
+        RunState::Runnable => 1,
+        RunState::Running { pcpu } => {
+            if quantum <= sched::elapsed(v, now) {
+                pcpu % 64 + 2
+            } else {
+                0
+            }
+        }
+        RunState::Blocked => 0,
+    }
+}
+
+fn tabulate(s: System, p: Scheduler, now: Ticks) -> Table
+    ensures { λ r. ⌜ Tabulates s p now (r .kind) (r .mask) (r .service) (r .weight) ⌝ }
+{
+    let mut kind = [0u32; 128];
+    let mut mask = [0u64; 128];
+    let mut service = [0u32; 512];
+    let mut weight = [0u32; 128];
+    let n = least(s.domain_count, system::MAX_DOMAINS) * 8;
+    let k = s.vcpus_per_domain;
+    let mut i: usize = 0;
+    while i < n {
+        let v = s.vcpus[i];
+        let a = policy::looked_up(p.domain_count, p.vcpus_per_domain, i, p.accounts[i]);
+        let row = policy::service_of(v, a, now);
+        let j = i * 4;
+        kind[i] = kind_of(v, i % 8 < k, p.quantum, now);
+        mask[i] = v.affinity;
+        weight[i] = policy::used_weight(a);
+        service[j] = row[0];
+        service[j + 1] = row[1];
+        service[j + 2] = row[2];
+        service[j + 3] = row[3];
+        i += 1;
+    }
+    Table {
+        kind,
+        mask,
+        service,
+        weight,
+    }
+}
+
+fn is_idle(o: Occupant) -> bool
+    ensures { λ r. ⌜ r ≡ isIdle o ⌝ }
+{
+    match o {
+        Occupant::Idle => true,
+        Occupant::Vcpu { dom: _, vcpu: _ } => false,
+    }
+}
+
+// The set of idle pCPUs.
+fn idle_set(s: System) -> u64
+    ensures { λ r. ⌜ r ≡ idleSet s ⌝ }
+{
+    let n = least(s.pcpu_count, system::MAX_PCPUS);
+    let mut set: u64 = 0;
+    let mut q: usize = 0;
+    while q < n {
+        let held = s.pcpus[q];
+        let o = held.occupant;
+        if is_idle(o) {
+            set = set + masks::pcpu_bit(q as u32);
+        }
+        q += 1;
+    }
+    set
+}
+
+// ---- one move
+
+fn rests(c: Choice) -> bool
+    ensures { λ r. ⌜ r ≡ isRest c ⌝ }
+{
+    match c {
+        Choice::Run { at: _, pcpu: _ } => false,
+        Choice::Preempt { at: _, pcpu: _ } => false,
+        Choice::Rest => true,
+    }
+}
+
+// The slot that moves.
+fn slot_in(c: Choice) -> usize
+    ensures { λ r. ⌜ r ≡ slotIn c ⌝ }
+{
+    match c {
+        Choice::Run { at, pcpu: _ } => at,
+        Choice::Preempt { at, pcpu: _ } => at,
+        Choice::Rest => 0,
+    }
+}
+
+// The pCPU that it moves onto or off.
+fn onto_in(c: Choice) -> u32
+    ensures { λ r. ⌜ r ≡ ontoIn c ⌝ }
+{
+    match c {
+        Choice::Run { at: _, pcpu } => pcpu,
+        Choice::Preempt { at: _, pcpu } => pcpu,
+        Choice::Rest => 0,
+    }
+}
+
+fn record_after(c: Choice, v: VirtualCpu, now: Ticks) -> VirtualCpu
+    ensures { λ r. ⌜ r ≡ recordAfter c v now ⌝ }
+{
+    match c {
+        Choice::Run { at: _, pcpu } => sched::dispatched(v, pcpu, now),
+        Choice::Preempt { at: _, pcpu: _ } => sched::left(v, RunState::Runnable, now),
+        Choice::Rest => v,
+    }
+}
+
+fn occupant_after(c: Choice) -> Occupant
+    ensures { λ r. ⌜ r ≡ occupantAfter c ⌝ }
+{
+    match c {
+        Choice::Run { at, pcpu: _ } => Occupant::Vcpu {
+            dom: (at / 8 % 16) as u16,
+            vcpu: (at % 8) as u32,
+        },
+        Choice::Preempt { at: _, pcpu: _ } => Occupant::Idle,
+        Choice::Rest => Occupant::Idle,
+    }
+}
+
+// The bit of the pCPU that a move takes out of the idle set.
+fn cleared(c: Choice) -> u64
+    ensures { λ r. ⌜ r ≡ cleared c ⌝ }
+{
+    match c {
+        Choice::Run { at: _, pcpu } => masks::pcpu_bit(pcpu),
+        Choice::Preempt { at: _, pcpu: _ } => 0,
+        Choice::Rest => 0,
+    }
+}
+
+// The bit of the pCPU that a move puts into the idle set.
+fn freed(c: Choice) -> u64
+    ensures { λ r. ⌜ r ≡ freed c ⌝ }
+{
+    match c {
+        Choice::Run { at: _, pcpu: _ } => 0,
+        Choice::Preempt { at: _, pcpu } => masks::pcpu_bit(pcpu),
+        Choice::Rest => 0,
+    }
+}
+
+// ---- all moves
+
+// The most moves of an advance.
+fn most_moves(domain_count: usize, vcpus_per_domain: usize, pcpu_count: usize) -> usize
+    ensures { λ r. ⌜ r ≡ min «domain_count» 16 * min «vcpus_per_domain» 8 + 2 * min «pcpu_count» 64 + 1 ⌝ }
+{
+    let d = least(domain_count, system::MAX_DOMAINS);
+    let v = least(vcpus_per_domain, system::MAX_VCPUS);
+    let p = least(pcpu_count, system::MAX_PCPUS);
+    d * v + 2 * p + 1
+}
+
+// Decides and enacts until there is nothing to do. The table follows each move, so that only the slot
+// that moved is looked at again.
+fn settle(s: System, p: Scheduler, t: Table, now: Ticks) -> Settled
+    requires { ⌜ invariantsHold s ≡ true ⌝ }
+    requires { ⌜ Tabulates s p now (t .kind) (t .mask) (t .service) (t .weight) ⌝ }
+    ensures { λ r. ⌜ Settles p now (limit s) s (r .system) (r .count) ⌝ }
+{
+    let n = s.domain_count * 8;
+    let most = most_moves(s.domain_count, s.vcpus_per_domain, s.pcpu_count);
+    let mut kind = t.kind;
+    let mask = t.mask;
+    let mut service = t.service;
+    let weight = t.weight;
+    let mut idle = idle_set(s);
+    let mut system = s;
+    let mut count: usize = 0;
+    while count < most {
+        let c = moves::decide(&kind, &mask, &service, &weight, n, idle);
+        if rests(c) {
+            return Settled { system, count };
+        }
+        let i = slot_in(c);
+        let q = onto_in(c) as usize;
+        let v = record_after(c, system.vcpus[i], now);
+        let row = policy::service_of(
+            v,
+            policy::looked_up(p.domain_count, p.vcpus_per_domain, i, p.accounts[i]),
+            now,
+        );
+        let j = i * 4;
+        system.vcpus[i] = v;
+        system.pcpus[q] = PhysicalCpu {
+            occupant: occupant_after(c),
+        };
+        kind[i] = kind_of(v, true, p.quantum, now);
+        service[j] = row[0];
+        service[j + 1] = row[1];
+        service[j + 2] = row[2];
+        service[j + 3] = row[3];
+        idle = idle - cleared(c) + freed(c);
+        count += 1;
+    }
+    Settled { system, count }
+}
+
+// A choice by the vCPU's ids.
+fn named(c: Choice) -> Decision
+    ensures { λ r. ⌜ r ≡ namedAs c ⌝ }
+{
+    match c {
+        Choice::Run { at, pcpu } => Decision::Run {
+            dom: (at / 8 % 16) as u16,
+            vcpu: (at % 8) as u32,
+            pcpu,
+        },
+        Choice::Preempt { at, pcpu } => Decision::Preempt {
+            dom: (at / 8 % 16) as u16,
+            vcpu: (at % 8) as u32,
+            pcpu,
+        },
+        Choice::Rest => Decision::Idle,
+    }
+}
+
+// The choice over a table.
+fn choose(s: System, t: Table) -> Choice
+    requires { ⌜ s .«domain_count» ≤ 16 ⌝ }
+    ensures { λ r. ⌜ r ≡ decide (tabled (t .kind) (t .mask) (t .service) (t .weight) (idleSet s)) (min (s .«domain_count» * 8) 128) ⌝ }
+{
+    let kind = t.kind;
+    let mask = t.mask;
+    let service = t.service;
+    let weight = t.weight;
+    moves::decide(
+        &kind,
+        &mask,
+        &service,
+        &weight,
+        s.domain_count * 8,
+        idle_set(s),
+    )
+}
+
+/// What to do next: dispatch a vCPU that waits onto an idle pCPU, else preempt one, else nothing.
+pub fn next(s: System, p: Scheduler, now: Ticks) -> Recommendation
+    ensures { λ r. ⌜ recommended r ≡ next s p now ⌝ }
+{
+    if !verdict::invariants_hold(s) {
+        return Recommendation {
+            answer: Answer::Unsound,
+            decision: Decision::Idle,
+        };
+    }
+    let t = tabulate(s, p, now);
+    let c = choose(s, t);
+    Recommendation {
+        answer: Answer::Done,
+        decision: named(c),
+    }
+}
+
+/// Accounts, then does what is next until nothing is.
+pub fn advance(s: System, p: Scheduler, now: Ticks) -> Advanced
+    ensures { λ r. ⌜ advanced r ≡ counted (advance s p now) ⌝ }
+{
+    if !verdict::invariants_hold(s) {
+        return Advanced {
+            answer: Answer::Unsound,
+            system: s,
+            scheduler: p,
+            count: 0,
+        };
+    }
+    let scheduler = policy::accounted(s, p, now);
+    let t = tabulate(s, scheduler, now);
+    let r = settle(s, scheduler, t, now);
+    let system = r.system;
+    Advanced {
+        answer: Answer::Done,
+        system,
+        scheduler,
+        count: r.count,
+    }
 }

@@ -1,4 +1,5 @@
 pub mod Step
+pub mod Handed
 pub mod Book
 pub mod Agreement
 pub mod Matching

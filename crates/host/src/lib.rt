@@ -1,9 +1,18 @@
 //! A host: a system and a policy together, a call as data, and one step.
 
+ghost use mathlib.Core.Path.{_≡_};
+ghost use Rattle.system.specs.Answers.{outcome};
+ghost use Rattle.advance.specs.Told.{advanced};
+ghost use Rattle.host.specs.Step.{step};
+ghost use Rattle.host.specs.Handed.{handed, counted, handedBy, byPolicy, handedAfter, built};
+use advance::Advanced;
+use policy::Adjusted;
 use policy::Scheduler;
 use policy::Weight;
+use system::Answer;
 use system::DomId;
 use system::Pcpu;
+use system::Stepped;
 use system::System;
 use system::Ticks;
 use system::Vcpu;
@@ -12,6 +21,13 @@ use system::Vcpu;
 pub struct Host {
     pub system: System,
     pub scheduler: Scheduler,
+}
+
+/// An answer, the host that the call leaves, and how many moves it enacted.
+pub struct Outcome {
+    pub answer: Answer,
+    pub host: Host,
+    pub count: usize,
 }
 
 /// A call of the host.
@@ -65,4 +81,105 @@ pub enum Call {
     Advance {
         now: Ticks,
     },
+}
+
+// What a call of the mechanism hands back.
+fn by_system(r: Stepped, p: Scheduler) -> Outcome
+    ensures { λ x. ⌜ handed x ≡ handedBy p (outcome r) ⌝ }
+{
+    let system = r.system;
+    let answer = r.answer;
+    Outcome {
+        answer,
+        host: Host {
+            system,
+            scheduler: p,
+        },
+        count: 0,
+    }
+}
+
+// What a call of the policy hands back: it is never refused.
+fn by_policy(s: System, p: Scheduler) -> Outcome
+    ensures { λ x. ⌜ handed x ≡ byPolicy s p ⌝ }
+{
+    Outcome {
+        answer: Answer::Done,
+        host: Host {
+            system: s,
+            scheduler: p,
+        },
+        count: 0,
+    }
+}
+
+fn by_advance(r: Advanced) -> Outcome
+    ensures { λ x. ⌜ handed x ≡ handedAfter (advanced r) ⌝ }
+{
+    let system = r.system;
+    let scheduler = r.scheduler;
+    let answer = r.answer;
+    Outcome {
+        answer,
+        host: Host { system, scheduler },
+        count: r.count,
+    }
+}
+
+impl Host {
+    /// A host of that shape, with a policy of the same. One above the sizes is refused, beside the
+    /// host of no domains, vCPUs and pCPUs.
+    pub fn new(
+        num_domains: usize,
+        vcpus_per_domain: usize,
+        num_pcpus: usize,
+        quantum: Ticks,
+    ) -> Outcome
+        ensures { λ r. ⌜ handed r ≡ built «num_domains» «vcpus_per_domain» «num_pcpus» quantum ⌝ }
+    {
+        if system::within_sizes(num_domains, vcpus_per_domain, num_pcpus) {
+            let p = Scheduler::new(num_domains, vcpus_per_domain, quantum);
+            let scheduler = p.policy;
+            by_system(
+                System::new(num_domains, vcpus_per_domain, num_pcpus),
+                scheduler,
+            )
+        } else {
+            let p = Scheduler::new(0, 0, 0);
+            let scheduler = p.policy;
+            by_system(
+                System::new(num_domains, vcpus_per_domain, num_pcpus),
+                scheduler,
+            )
+        }
+    }
+}
+
+/// One call.
+pub fn step(h: Host, call: Call) -> Outcome
+    ensures { λ r. ⌜ handed r ≡ counted (step h call) ⌝ }
+{
+    let s = h.system;
+    let p = h.scheduler;
+    match call {
+        Call::Admit { dom, vcpu } => by_system(sched::admit(s, dom, vcpu), p),
+        Call::Run {
+            dom,
+            vcpu,
+            pcpu,
+            now,
+        } => by_system(sched::run(s, dom, vcpu, pcpu, now), p),
+        Call::Preempt { dom, vcpu, now } => by_system(sched::preempt(s, dom, vcpu, now), p),
+        Call::Block { dom, vcpu, now } => by_system(sched::block(s, dom, vcpu, now), p),
+        Call::Wake { dom, vcpu } => by_system(sched::wake(s, dom, vcpu), p),
+        Call::Offline { dom, vcpu, now } => by_system(sched::offline(s, dom, vcpu, now), p),
+        Call::OfflineAll { dom, now } => by_system(sched::offline_all(s, dom, now), p),
+        Call::SetAffinity { dom, vcpu, mask } => by_system(
+            sched::set_affinity(s, dom, vcpu, mask),
+            p,
+        ),
+        Call::SetWeight { dom, vcpu, weight } => by_policy(s, p.set_weight(dom, vcpu, weight)),
+        Call::SetWakeBoost { enabled } => by_policy(s, p.set_wake_boost(enabled)),
+        Call::Advance { now } => by_advance(advance::advance(s, p, now)),
+    }
 }

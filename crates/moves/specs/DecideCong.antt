@@ -1,14 +1,13 @@
 -- The decision depends only on what is known of the slots below n that wait or are hot, and of the pCPUs. Assumes nothing.
-use Prim.Native.Nat.{ℕ, _≤_, _<_}
+use Prim.Native.Nat.{ℕ, _<_}
 use mathlib.Core.Bool.{Bool, true, false, _&&_, false≢true}
-use mathlib.Core.Path.{_≡_, refl, sym, _∙_, ap, ap₂}
+use mathlib.Core.Path.{_≡_, refl, _∙_, ap, ap₂}
 use mathlib.Core.Logic.{_⊎_, inl, inr}
 use lib.Dec.{ltb}
-use Rattle.masks.specs.Masks.{permits, first}
+use Rattle.masks.specs.Masks.{permits}
 use Rattle.masks.specs.Laws.{first-cong}
-use Rattle.moves.specs.declared.Choice.{Choice}
-use Rattle.moves.specs.declared.Choice.the-variants.{Run, Preempt, Rest}
-use Rattle.moves.specs.Scan.{Pick, nobody, at, scan, some, scan-sound, scan-cong}
+use Rattle.moves.specs.declared.Choice.the-variants.{Run, Preempt}
+use Rattle.moves.specs.Scan.{Pick, nobody, at, some, scan-sound, scan-cong}
 use Rattle.moves.specs.Decide.{Standings, never, placement, placeable, beaten, loses, chosen, victim, orPreempt, orRun, decide}
 
 -- slot i waits or is hot: it takes part in a decision
@@ -48,7 +47,8 @@ module _ {t t′ : Standings} {n : ℕ} (A : Alike t t′ n) where
   unfolding beaten
   beaten-same i l h =
       ap some
-      (scan-cong (λ j. t .waits j && (permits (t .mask j) (t .on i) && t .beats j i)) (λ j. t′ .waits j && (permits (t′ .mask j) (t′ .on i) && t′ .beats j i))
+      (scan-cong (λ j. t .waits j && (permits (t .mask j) (t .on i) && t .beats j i))
+      (λ j. t′ .waits j && (permits (t′ .mask j) (t′ .on i) && t′ .beats j i))
       never never n
       (λ j k. and-cong _ _ _ _ (A .waits j k)
       (λ w. ap₂ _&&_ (ap₂ permits (A .mask j k w) (A .on i l h)) (A .beats j i k l (inl w) (inr h))))

@@ -1,14 +1,13 @@
 -- Laws of the decision. Everything above this crate goes by these and not by the decision's text. Assumes nothing.
 use Prim.Native.Nat.{ℕ, _≤_, _<_}
 use mathlib.Core.Bool.{Bool, true, false, _&&_, true≢false, false≢true}
-use mathlib.Core.Path.{_≡_, refl, sym, _∙_, ap}
+use mathlib.Core.Path.{_≡_, refl, sym, _∙_}
 use native.Mathlib.Nat.{le-refl, lt-of-not-le}
 use native.Mathlib.Decide.{decLe}
 use native.Mathlib.Omega.{arith}
-use lib.Dec.{ltb}
 use borrow.Author.Tests.{ltb-true, lt-ltb}
 use Rattle.masks.specs.Masks.{permits, first}
-use Rattle.masks.specs.Laws.{Least, first-least}
+use Rattle.masks.specs.Laws.{first-least}
 use Rattle.moves.specs.declared.Choice.{Choice}
 use Rattle.moves.specs.declared.Choice.the-variants.{Run, Preempt, Rest}
 use Rattle.moves.specs.Scan.{Pick, nobody, at, scan, some, scan-sound, scan-complete, scan-least, scan-earliest, Ranks}
@@ -54,7 +53,7 @@ placement-finds t i p f = go (decLe (first g 64) p)
     go (yes h) = h
     go (no n) = absurd (true≢false (sym (all-two (f .idle) (f .admits)) ∙ first-least g 64 .before p (lt-of-not-le n)))
 
-placeable-fits : (t : Standings) (i : ℕ) → placeable t i ≡ true → Fits t i (placement t i)
+pub placeable-fits : (t : Standings) (i : ℕ) → placeable t i ≡ true → Fits t i (placement t i)
 unfolding placeable
 placeable-fits t i e = let f = both _ _ e in placement-fits t i (f .0) (ltb-true _ _ (f .1))
 
@@ -77,7 +76,7 @@ beaten-by t n i e =
     let b = both _ _ (a .1) in
     (k .0, record { below = f .0; waits = a .0; admits = b .0; wins = b .1 })
 
-by-beaten : (t : Standings) (n i j : ℕ) → Beats t n i j → beaten t n i ≡ true
+pub by-beaten : (t : Standings) (n i j : ℕ) → Beats t n i j → beaten t n i ≡ true
 unfolding beaten
 by-beaten t n i j b = go (scan test never n) refl
   where
@@ -229,5 +228,6 @@ module _ (t : Standings) (n : ℕ) (R : Ranks (t .beats) n) where
       go (ran m g c) f = absurd (let z : _≡_ {A = ℕ} 0 1 = cc in omega arith)
       go (stopped {i = x} m y z c v) f =
           let a : x ≡ i = cc in
-          rw (← a) (scan-earliest (loses t n) (λ u w. t .beats w u) n (turned R) n x j (le-refl n) v (omega arith) (all-two h (by-beaten t n j k b)))
+          rw (← a) (scan-earliest (loses t n) (λ u w. t .beats w u) n (turned R) n x j (le-refl n) v (omega arith)
+          (all-two h (by-beaten t n j k b)))
       go (rested c v) f = absurd (let z : _≡_ {A = ℕ} 0 1 = cc in omega arith)

@@ -3,3 +3,4 @@ pub mod Decide
 pub mod DecideLaws
 pub mod DecideCong
 pub mod Table
+pub mod Loops

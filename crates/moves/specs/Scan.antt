@@ -142,7 +142,8 @@ scan-cong c d b e (suc n) h k =
     rw (← scan-cong c d b e n (λ i l. h i (omega arith)) (λ i j x y. k i j (omega arith) (omega arith)), ← h n (omega arith))
     (step (c n) refl (scan c b n) (λ x. scan-sound c b n x))
   where
-    step : (t : Bool) → c n ≡ t → (r : Pick) → ((x : ℕ) → r ≡ at x → (x < n) × (c x ≡ true)) → cond t (against b n r) r ≡ cond t (against e n r) r
+    step : (t : Bool) → c n ≡ t → (r : Pick) → ((x : ℕ) → r ≡ at x → (x < n) × (c x ≡ true))
+        → cond t (against b n r) r ≡ cond t (against e n r) r
     step false y r so = refl
     step true y nobody so = refl
     step true y (at j) so = let f = so j refl in rw (k n j (omega arith) (omega (arith, f .0)) y (f .1))

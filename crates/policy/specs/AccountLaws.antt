@@ -1,12 +1,11 @@
 -- What accounting changes and what it keeps. Assumes nothing.
-use Prim.Native.Nat.{ℕ, zero, suc, _+_, _*_, _/_, _%_, _≤_, _<_, min, max}
+use Prim.Native.Nat.{ℕ, zero, suc, _/_, _%_, _<_, min, max}
 use mathlib.Core.Bool.{Bool, true, false, cond, not, _&&_, false≢true}
 use mathlib.Core.Path.{_≡_, refl, sym, _∙_, ap, subst}
 use mathlib.Core.Logic.{_≢_, _⊎_, inl, inr}
-use mathlib.Core.List.{List, map}
+use mathlib.Core.List.{map}
 use native.Mathlib.Omega.{arith}
 use native.Mathlib.Decide.{ℕ-discrete}
-use native.Mathlib.Nat.{eq-or-lt-of-le}
 use lib.Dec.{ltb}
 use lib.ListN.{length, getD, set, length-set, length-map, List·getD-map}
 use lib.Seq.{getD-set-same, getD-set-other}
@@ -14,10 +13,11 @@ use borrow.Author.Tests.{ltb-true}
 use Rattle.service.specs.Service.{value}
 use Rattle.system.specs.declared.System.{System}
 use Rattle.system.specs.Reads.{slot}
-use Rattle.moves.specs.Scan.{Pick, nobody, at, scan, scan-sound}
+use Rattle.moves.specs.Scan.{nobody, at, scan-sound}
 use Rattle.policy.specs.declared.Account.{Account}
 use Rattle.policy.specs.declared.Scheduler.{Scheduler}
-use Rattle.policy.specs.Accounts.{blankAccount, plain, accountAt, covers, accountOf, weightOf, offsetOf, wasSchedulable, withAccounts, putAccount, setWeight, setWakeBoost, unboosted}
+use Rattle.policy.specs.Accounts.{blankAccount, plain, accountAt, covers, accountOf, weightOf, offsetOf, wasSchedulable}
+use Rattle.policy.specs.Accounts.{withAccounts, putAccount, setWeight, setWakeBoost, unboosted}
 use Rattle.policy.specs.Standing.{slots, present, deserves}
 use Rattle.policy.specs.Accounting.{pooled, floor, lifted, renewed, renewFirst, accounted}
 
@@ -33,7 +33,7 @@ pub record SamePolicy (π ρ : Scheduler) : Type 0 where
   pub boost : ρ .«wake_boost» ≡ π .«wake_boost»
   pub ledger : length (ρ .accounts) ≡ length (π .accounts)
 
-same-covers : {π ρ : Scheduler} → SamePolicy π ρ → (d v : ℕ) → covers ρ d v ≡ covers π d v
+pub same-covers : {π ρ : Scheduler} → SamePolicy π ρ → (d v : ℕ) → covers ρ d v ≡ covers π d v
 same-covers e d v = rw (e .domains, e .vcpus)
 
 pub put-same : (π : Scheduler) (d v : ℕ) (a : Account) → SamePolicy π (putAccount π d v a)
@@ -101,7 +101,9 @@ module _ (π : Scheduler) (L : Ledger π) (i : ℕ) (a : Account) where
       other e = n (omega arith)
 
       go : (b : Bool) → accountOf (cond b (withAccounts π (set (π .accounts) (slot (i / 8) (i % 8)) a)) π) d v ≡ accountOf π d v
-      go true = ap (λ (x : Account). cond (covers π d v) x plain) (getD-set-other (π .accounts) (slot (i / 8) (i % 8)) (slot d v) a blankAccount other)
+      go true =
+          ap (λ (x : Account). cond (covers π d v) x plain)
+          (getD-set-other (π .accounts) (slot (i / 8) (i % 8)) (slot d v) a blankAccount other)
       go false = refl
 
 -- ---- what is looked up after accounting
@@ -159,10 +161,19 @@ module _ (s : System) (π : Scheduler) (L : Ledger π) (now : ℕ) where
           })
       there n (inr h) = inr (put-there (upTo k) (ledger k) k a (i / 8) (i % 8) (λ y. n (omega arith)) ∙ h)
 
-      go : (b : Bool) → present s k ≡ b → Dec (i ≡ k) → Either k i (upTo k) → Either (suc k) i (cond b (putAccount (upTo k) (k / 8) (k % 8) a) (upTo k))
+      go : (b : Bool) → present s k ≡ b → Dec (i ≡ k) → Either k i (upTo k)
+          → Either (suc k) i (cond b (putAccount (upTo k) (k / 8) (k % 8) a) (upTo k))
       go false p e ih = later ih
       go true p (yes x) ih = here (covers (upTo k) (k / 8) (k % 8)) refl p x ih
       go true p (no n) ih = later (there n ih)
+
+  -- before its own turn it is as it was
+  pub kept-until : (k : ℕ) → accountOf (upTo k) (k / 8) (k % 8) ≡ accountOf π (k / 8) (k % 8)
+  kept-until k = go (renewed-or-kept k k)
+    where
+      go : Either k k (upTo k) → accountOf (upTo k) (k / 8) (k % 8) ≡ accountOf π (k / 8) (k % 8)
+      go (inl h) = absurd (omega (arith, h .below))
+      go (inr e) = e
 
   -- it is renewed where the vCPU is present and in the policy's shape
   renewed-here : (k i : ℕ) → i < k → present s i ≡ true → covers π (i / 8) (i % 8) ≡ true → accountOf (upTo k) (i / 8) (i % 8) ≡ renewed s π now i
@@ -174,7 +185,8 @@ module _ (s : System) (π : Scheduler) (L : Ledger π) (now : ℕ) where
           → accountOf (cond b (putAccount (upTo k) (k / 8) (k % 8) (renewed s π now k)) (upTo k)) (i / 8) (i % 8) ≡ renewed s π now i
       go true h (yes x) ih =
           subst (λ (j : ℕ). accountOf (putAccount (upTo k) (k / 8) (k % 8) (renewed s π now k)) (j / 8) (j % 8) ≡ renewed s π now j) (sym x)
-          (put-here (upTo k) (ledger k) k (renewed s π now k) (same-covers (renew-same s π now k) (k / 8) (k % 8) ∙ (ap (λ (j : ℕ). covers π (j / 8) (j % 8)) (sym x) ∙ c)))
+          (put-here (upTo k) (ledger k) k (renewed s π now k)
+          (same-covers (renew-same s π now k) (k / 8) (k % 8) ∙ (ap (λ (j : ℕ). covers π (j / 8) (j % 8)) (sym x) ∙ c)))
       go false h (yes x) ih = absurd (false≢true (sym h ∙ (ap (present s) (sym x) ∙ e)))
       go true h (no n) ih = put-there (upTo k) (ledger k) k (renewed s π now k) (i / 8) (i % 8) (λ y. n (omega arith)) ∙ ih (omega arith)
       go false h (no n) ih = ih (omega arith)
@@ -305,7 +317,8 @@ pub cleared : (π : Scheduler) (on : Bool) (d v : ℕ) → accountOf (setWakeBoo
 unfolding accountOf accountAt setWakeBoost
 cleared π on d v = go (covers π d v)
   where
-    go : (b : Bool) → cond b (getD (map unboosted (π .accounts)) (slot d v) blankAccount) plain ≡ unboosted (cond b (getD (π .accounts) (slot d v) blankAccount) plain)
+    go : (b : Bool) → cond b (getD (map unboosted (π .accounts)) (slot d v) blankAccount) plain
+        ≡ unboosted (cond b (getD (π .accounts) (slot d v) blankAccount) plain)
     go true = List·getD-map unboosted (π .accounts) (slot d v) blankAccount
     go false = refl
 

@@ -2,12 +2,14 @@
 use Prim.Native.Nat.{ℕ, zero, suc, min, max}
 use mathlib.Core.Bool.{Bool, true, false, cond, _&&_}
 use mathlib.Core.List.{List, [], _∷_, map}
-use lib.Dec.{ltb}
+use lib.Dec.{ltb, leb}
 use lib.ListN.{getD, set, replicate}
 use Rattle.service.specs.Service.{value}
+use Rattle.system.specs.Answers.{told}
 use Rattle.system.specs.Reads.{slot}
 use Rattle.policy.specs.declared.Account.{Account}
 use Rattle.policy.specs.declared.Scheduler.{Scheduler}
+use Rattle.policy.specs.declared.Adjusted.{Adjusted}
 
 abbrev pub defaultWeight : ℕ
 defaultWeight = 1
@@ -85,3 +87,15 @@ setWakeBoost π on =
       quantum = π .quantum;
       «wake_boost» = on;
     }
+
+-- what a call is told, and the policy that it leaves
+pub record PolicyOutcome : Type 0 where
+  pub number : ℕ
+  pub policy : Scheduler
+
+abbrev pub policyOutcome : Adjusted → PolicyOutcome
+policyOutcome r = record { number = told (r .answer); policy = r .policy }
+
+-- a shape above the sizes is told 7, beside the policy of no domains and vCPUs
+abbrev pub builtPolicy : ℕ → ℕ → ℕ → PolicyOutcome
+builtPolicy d v q = cond (leb d 16 && leb v 8) (record { number = 0; policy = freshPolicy d v q }) (record { number = 7; policy = freshPolicy 0 0 0 })

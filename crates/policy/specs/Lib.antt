@@ -2,3 +2,4 @@ pub mod Accounts
 pub mod Standing
 pub mod Accounting
 pub mod AccountLaws
+pub mod Loops

@@ -1,12 +1,17 @@
-//! The policy: which runnable vCPU gets a pCPU, and when a runner has to leave. Least service over
-//! weight first; a time slice after which a runner yields to a more deserving waiter; a waker placed
-//! at the floor of those that stayed.
+//! The policy's records: each vCPU's weight, the service added when it joined the pool, and the
+//! snapshot of the pool; how these are set and looked up, and how an accounting renews them.
 
+ghost use mathlib.Core.Path.{_≡_};
+ghost use mathlib.Core.Bool.{cond, _&&_};
+ghost use Prim.Native.Nat.{_+_, _/_, _%_, min, max};
+ghost use lib.Dec.{ltb};
+ghost use Rattle.service.specs.Service.{value, held};
+ghost use Rattle.policy.specs.Accounts.{plain, weightOf, setWeight, setWakeBoost, freshPolicy, policyOutcome, builtPolicy};
+ghost use Rattle.policy.specs.Standing.{inFlight};
+ghost use Rattle.policy.specs.Accounting.{schedulable, floor, accounted};
+ghost use Rattle.policy.specs.Loops.{undercuts, leader, Leads, liftedTo, renewedAt};
 use system::Answer;
 use system::DomId;
-use system::Occupant;
-use system::Pcpu;
-use system::PhysicalCpu;
 use system::RunState;
 use system::System;
 use system::Ticks;
@@ -30,6 +35,15 @@ pub struct Account {
     pub was_schedulable: bool,
 }
 
+impl Account {
+    /// The account of a vCPU for which nothing was done, and of one outside the shape.
+    pub const PLAIN: Account = Account {
+        weight: DEFAULT_WEIGHT,
+        offset: [0; 4],
+        was_schedulable: false,
+    };
+}
+
 /// A scheduling policy, of a shape of its own. vCPU d/v stands at d × 8 + v.
 pub struct Scheduler {
     pub domain_count: usize,
@@ -38,4 +52,298 @@ pub struct Scheduler {
     /// Ticks after which a runner may be preempted.
     pub quantum: Ticks,
     pub wake_boost: bool,
+}
+
+/// An answer, and the policy that the call leaves.
+pub struct Adjusted {
+    pub answer: Answer,
+    pub policy: Scheduler,
+}
+
+// A policy as built.
+fn as_built(num_domains: usize, vcpus_per_domain: usize, quantum: Ticks) -> Scheduler
+    ensures { λ r. ⌜ r ≡ freshPolicy «num_domains» «vcpus_per_domain» quantum ⌝ }
+{
+    Scheduler {
+        domain_count: num_domains,
+        vcpus_per_domain,
+        accounts: [Account::PLAIN; 128],
+        quantum,
+        wake_boost: true,
+    }
+}
+
+// ---- one vCPU's account
+
+/// The account looked up for slot `i`, where `stored` is the one kept there.
+pub fn looked_up(domain_count: usize, vcpus_per_domain: usize, i: usize, stored: Account) -> Account
+    ensures { λ r. ⌜ r ≡ cond (ltb (i / 8) (min «domain_count» 16) && ltb (i % 8) (min «vcpus_per_domain» 8)) stored plain ⌝ }
+{
+    if i / 8 < least(domain_count, system::MAX_DOMAINS) {
+        if i % 8 < vcpus_per_domain {
+            return stored;
+        }
+    }
+    Account::PLAIN
+}
+
+// A weight, at least the least.
+fn raised(weight: Weight) -> Weight
+    ensures { λ r. ⌜ r ≡ max weight 1 ⌝ }
+{
+    if weight < MIN_WEIGHT {
+        MIN_WEIGHT
+    } else {
+        weight
+    }
+}
+
+/// The weight that is used: one of 0, in a damaged policy, reads as the least.
+pub fn used_weight(a: Account) -> Weight
+    ensures { λ r. ⌜ r ≡ max (a .weight) 1 ⌝ }
+{
+    raised(a.weight)
+}
+
+/// The part of a vCPU's service that is in flight.
+pub fn in_flight(v: VirtualCpu, now: Ticks) -> u64
+    ensures { λ r. ⌜ r ≡ inFlight v now ⌝ }
+{
+    let state = v.state;
+    match state {
+        RunState::Offline => 0,
+        RunState::Runnable => 0,
+        RunState::Running { pcpu: _ } => sched::elapsed(v, now),
+        RunState::Blocked => 0,
+    }
+}
+
+/// A vCPU's service: run time, the part in flight and the offset.
+pub fn service_of(v: VirtualCpu, a: Account, now: Ticks) -> [u32; 4]
+    ensures { λ r. ⌜ r ≡ held (v .runtime + inFlight v now + value (a .offset)) ⌝ }
+{
+    let offset = a.offset;
+    let closed = service::from_u64(v.runtime);
+    let open = service::from_u64(in_flight(v, now));
+    service::sum(service::sum(closed, open), offset)
+}
+
+// Whether a vCPU is in the pool: Runnable or Running.
+fn is_schedulable(v: VirtualCpu) -> bool
+    ensures { λ r. ⌜ r ≡ schedulable (v .state) ⌝ }
+{
+    let state = v.state;
+    match state {
+        RunState::Offline => false,
+        RunState::Runnable => true,
+        RunState::Running { pcpu: _ } => true,
+        RunState::Blocked => false,
+    }
+}
+
+// ---- accounting
+
+// Who leads the scan for the floor so far.
+struct Standing {
+    found: bool,
+    service: [u32; 4],
+    weight: Weight,
+}
+
+impl Standing {
+    const NOBODY: Standing = Standing {
+        found: false,
+        service: [0; 4],
+        weight: MIN_WEIGHT,
+    };
+}
+
+// Whether a service at a weight comes before the floor so far: strict, so that the earliest leads.
+fn undercuts(best: Standing, service: [u32; 4], weight: Weight) -> bool
+    ensures { λ r. ⌜ r ≡ undercuts best (value service) weight ⌝ }
+{
+    let t = best.service;
+    if best.found {
+        service::more_deserving(service, weight, t, best.weight)
+    } else {
+        true
+    }
+}
+
+// Who leads once a vCPU was compared: only one in the pool now and at the last snapshot can.
+fn leader(best: Standing, v: VirtualCpu, a: Account, now: Ticks) -> Standing
+    ensures { λ r. ⌜ r ≡ leader best v a now ⌝ }
+{
+    let stayed = a.was_schedulable;
+    if is_schedulable(v) {
+        if stayed {
+            let service = service_of(v, a, now);
+            let weight = used_weight(a);
+            if undercuts(best, service, weight) {
+                return Standing {
+                    found: true,
+                    service,
+                    weight,
+                };
+            }
+        }
+    }
+    best
+}
+
+// The most deserving of those in the pool now that were at the last snapshot.
+fn floor(s: System, p: Scheduler, now: Ticks) -> Standing
+    ensures { λ r. ⌜ Leads s p now (floor s p now) r ⌝ }
+{
+    let n = least(s.domain_count, system::MAX_DOMAINS) * 8;
+    let k = s.vcpus_per_domain;
+    let mut best = Standing::NOBODY;
+    let mut i: usize = 0;
+    while i < n {
+        if i % 8 < k {
+            let v = s.vcpus[i];
+            let a = looked_up(p.domain_count, p.vcpus_per_domain, i, p.accounts[i]);
+            best = leader(best, v, a, now);
+        }
+        i += 1;
+    }
+    best
+}
+
+// The offset that places a vCPU at the floor: what the floor's service is worth at the vCPU's weight,
+// less what it ran.
+fn lifted(f: Standing, weight: Weight, runtime: Ticks) -> [u32; 4]
+    ensures { λ r. ⌜ r ≡ liftedTo f weight runtime ⌝ }
+{
+    let base = f.service;
+    let worth = service::quotient(service::product(base, weight), f.weight);
+    service::difference(worth, service::from_u64(runtime))
+}
+
+// A vCPU's account, renewed: one that joined the pool is placed at the floor, if there is one.
+fn renewed(v: VirtualCpu, a: Account, f: Standing, wake_boost: bool) -> Account
+    ensures { λ r. ⌜ r ≡ renewedAt v a f «wake_boost» ⌝ }
+{
+    let stands = is_schedulable(v);
+    let mut offset = a.offset;
+    if wake_boost {
+        if stands {
+            if !a.was_schedulable {
+                if f.found {
+                    offset = lifted(f, used_weight(a), v.runtime);
+                }
+            }
+        }
+    }
+    Account {
+        weight: a.weight,
+        offset,
+        was_schedulable: stands,
+    }
+}
+
+/// The policy after an accounting: those that joined the pool are placed at the floor of those that
+/// stayed, and the snapshot is renewed.
+pub fn accounted(s: System, p: Scheduler, now: Ticks) -> Scheduler
+    ensures { λ r. ⌜ r ≡ accounted s p now ⌝ }
+{
+    let f = floor(s, p, now);
+    let n = least(s.domain_count, system::MAX_DOMAINS) * 8;
+    let k = least(s.vcpus_per_domain, p.vcpus_per_domain);
+    let mut q = p;
+    let mut i: usize = 0;
+    while i < n {
+        if i % 8 < k {
+            if i / 8 < p.domain_count {
+                let v = s.vcpus[i];
+                let a = q.accounts[i];
+                q.accounts[i] = renewed(v, a, f, p.wake_boost);
+            }
+        }
+        i += 1;
+    }
+    q
+}
+
+fn least(a: usize, b: usize) -> usize
+    ensures { λ r. ⌜ r ≡ min a b ⌝ }
+{
+    if a < b { a } else { b }
+}
+
+// ---- the policy's own calls
+
+impl Scheduler {
+    /// A policy of that shape, boost on. One above the sizes is refused, beside the policy of no
+    /// domains and vCPUs.
+    pub fn new(num_domains: usize, vcpus_per_domain: usize, quantum: Ticks) -> Adjusted
+        ensures { λ r. ⌜ policyOutcome r ≡ builtPolicy «num_domains» «vcpus_per_domain» quantum ⌝ }
+    {
+        if system::within_sizes(num_domains, vcpus_per_domain, 0) {
+            Adjusted {
+                answer: Answer::Done,
+                policy: as_built(num_domains, vcpus_per_domain, quantum),
+            }
+        } else {
+            Adjusted {
+                answer: Answer::TooLarge,
+                policy: as_built(0, 0, 0),
+            }
+        }
+    }
+
+    /// The weight of a vCPU; the default outside the shape.
+    pub fn weight_of(self, dom: DomId, vcpu: Vcpu) -> Weight
+        ensures { λ r. ⌜ r ≡ weightOf self dom vcpu ⌝ }
+    {
+        let d = dom as usize;
+        let v = vcpu as usize;
+        if d < least(self.domain_count, system::MAX_DOMAINS) {
+            if v < least(self.vcpus_per_domain, system::MAX_VCPUS) {
+                let a = self.accounts[d * 8 + v];
+                return used_weight(a);
+            }
+        }
+        DEFAULT_WEIGHT
+    }
+
+    /// Another weight for a vCPU, at least the least; ids outside the shape are ignored.
+    pub fn set_weight(self, dom: DomId, vcpu: Vcpu, weight: Weight) -> Scheduler
+        ensures { λ r. ⌜ r ≡ setWeight self dom vcpu weight ⌝ }
+    {
+        let d = dom as usize;
+        let v = vcpu as usize;
+        let mut p = self;
+        if d < least(p.domain_count, system::MAX_DOMAINS) {
+            if v < least(p.vcpus_per_domain, system::MAX_VCPUS) {
+                let mut a = p.accounts[d * 8 + v];
+                a.weight = raised(weight);
+                p.accounts[d * 8 + v] = a;
+            }
+        }
+        p
+    }
+
+    /// Ticks after which a runner may be preempted.
+    pub fn quantum(self) -> Ticks
+        ensures { λ r. ⌜ r ≡ self .quantum ⌝ }
+    {
+        self.quantum
+    }
+
+    /// Boost on or off. All offsets are cleared.
+    pub fn set_wake_boost(self, on: bool) -> Scheduler
+        ensures { λ r. ⌜ r ≡ setWakeBoost self on ⌝ }
+    {
+        let mut p = self;
+        let mut i: usize = 0;
+        while i < 128 {
+            let mut a = p.accounts[i];
+            a.offset = [0; 4];
+            p.accounts[i] = a;
+            i += 1;
+        }
+        p.wake_boost = on;
+        p
+    }
 }

@@ -1,0 +1,4 @@
+pub mod Idle
+pub mod Limit
+pub mod Lookups
+pub mod Returned

@@ -1,0 +1,5 @@
+pub mod Steps
+pub mod Chosen
+pub mod Victim
+pub mod Beaten
+pub mod Decided
