@@ -18,7 +18,7 @@ use Rattle.sched.specs.Legal.{stateAt, admits, CanRun}
 use Rattle.moves.specs.declared.Choice.{Choice}
 use Rattle.moves.specs.declared.Choice.the-variants.{Run, Preempt, Rest}
 use Rattle.moves.specs.Scan.{Ranks}
-use Rattle.moves.specs.DecideLaws.{Fits, Beats, IsRun, IsStopped, run-fits, run-found, preempt-beaten, rest-unbeaten, pick-least}
+use Rattle.moves.specs.DecideLaws.{Fits, Beats, IsRun, IsStopped, run-fits, run-found, preempt-beaten, rest-unbeaten, pick-least, pick-earliest}
 use Rattle.policy.specs.declared.Scheduler.{Scheduler}
 use Rattle.policy.specs.Standing.{slots, present, deserves}
 use Rattle.advance.specs.Choices.{isRunnable, isExpired, runsOn, standings, choice}
@@ -148,3 +148,8 @@ pub choice-least : (s : System) (π : Scheduler) (now i p j q : ℕ) → Ranks (
 unfolding choice standings
 choice-least s π now i p j q R e c =
     pick-least (standings s π now) (slots s) R i p j q e (present-is (c .present) .0) (can-fits s π now j q c)
+
+pub choice-earliest : (s : System) (π : Scheduler) (now i p j q : ℕ) → Ranks (deserves s π now) (slots s) → choice s π now ≡ Run i p → j < i
+    → CanRun s j q → deserves s π now i j ≡ true
+unfolding choice standings
+choice-earliest s π now i p j q R e l c = pick-earliest (standings s π now) (slots s) R i p j q e l (can-fits s π now j q c)

@@ -1,11 +1,10 @@
 -- Where no offset is set and no product is held, vCPUs are ranked by exact service over weight. Assumes nothing.
 use Prim.Native.Nat.{ℕ, _+_, _*_, _-_, _/_, _%_, _^_, _≤_, _<_, min, max}
 use mathlib.Core.Bool.{Bool, true, false}
-use mathlib.Core.Path.{_≡_, refl, sym, _∙_, ap, ap₂}
-use native.Mathlib.Omega.{arith}
-use native.Mathlib.Nat.{le-refl, add-zero, lt-of-lt-of-le}
+use mathlib.Core.Path.{_≡_, sym, _∙_, ap, ap₂, subst}
+use native.Mathlib.Nat.{add-zero, lt-of-lt-of-le}
 use lib.Dec.{ltb, lit≤}
-use borrow.Author.Tests.{ltb-true, ltb-false, lt-ltb, le-ltb}
+use borrow.Author.Tests.{ltb-true, ltb-false}
 use Rattle.service.specs.Service.{moreDeserving}
 use Rattle.service.specs.Laws.{below-lid, deserving-exact, product-below}
 use Rattle.system.specs.declared.System.{System}
@@ -14,7 +13,7 @@ use Rattle.moves.specs.Scan.{Ranks}
 use Rattle.policy.specs.declared.Scheduler.{Scheduler}
 use Rattle.policy.specs.Accounts.{offsetOf}
 use Rattle.policy.specs.Standing.{inFlight, weightAt, serviceAt, deserves}
-use Rattle.advance.specs.Cross.{before-trans, after-trans}
+use Rattle.advance.specs.Least.{unheld-ranks}
 
 -- service without the offset
 abbrev pub rawService : System → ℕ → ℕ → ℕ
@@ -25,9 +24,6 @@ pub record Level (s : System) (π : Scheduler) (now : ℕ) : Type 0 where
   pub offsets : (i : ℕ) → offsetOf π (i / 8) (i % 8) ≡ 0
   pub weights : (i : ℕ) → weightAt π i < 2 ^ 32
   pub services : (i : ℕ) → rawService s now i < 2 ^ 96
-
-pub weight-pos : (π : Scheduler) (i : ℕ) → 0 < weightAt π i
-weight-pos π i = omega arith
 
 module _ {s : System} {π : Scheduler} {now : ℕ} (L : Level s π now) where
   service-raw : (i : ℕ) → serviceAt s π now i ≡ rawService s now i
@@ -51,18 +47,8 @@ module _ {s : System} {π : Scheduler} {now : ℕ} (L : Level s π now) where
 
   pub level-ranks : (n : ℕ) → Ranks (deserves s π now) n
   level-ranks n =
-      record {
-        irrefl = λ i l. deserves-exact i i ∙ le-ltb (S i * w i) (S i * w i) (le-refl _);
-        trans = λ i j k a b c e f.
-            deserves-exact i k
-            ∙ lt-ltb _ _ (before-trans (S i) (w i) (S j) (w j) (S k) (w k) (weight-pos π k) (deserves-before i j e) (deserves-before j k f));
-        weak = λ i j k a b c e f.
-            deserves-exact i k
-            ∙ le-ltb _ _ (after-trans (S i) (w i) (S j) (w j) (S k) (w k) (weight-pos π j) (deserves-not i j e) (deserves-not j k f));
-      }
-    where
-      S : ℕ → ℕ
-      S = rawService s now
-
-      w : ℕ → ℕ
-      w = weightAt π
+      unheld-ranks
+      (record {
+        products = λ i j l m.
+            subst (λ (a : ℕ). a * weightAt π j < 2 ^ 128) (sym (service-raw i)) (product-below (rawService s now i) (weightAt π j) (L .services i) (L .weights j));
+      })

@@ -31,7 +31,8 @@ use Rattle.advance.specs.Advance.{enacted}
 use Rattle.advance.specs.ChoiceLaws.{CanPreempt, choice-least, choice-beaten, choice-unbeaten}
 use Rattle.advance.specs.Enacted.{run-wrote, run-keeps, preempt-wrote, preempt-keeps}
 use Rattle.advance.specs.Settles.{Trace, rest, run, preempt}
-use Rattle.advance.specs.Exact.{rawService, Level, weight-pos, level-ranks, deserves-before, deserves-not}
+use Rattle.advance.specs.Least.{weight-pos}
+use Rattle.advance.specs.Exact.{rawService, Level, level-ranks, deserves-before, deserves-not}
 use Rattle.advance.specs.Lag.{Pool, waits, runs, Lag, raw-waiting, raw-running, on-lag, off-lag}
 
 -- no offset is set, and weights are those of 32 bits

@@ -7,6 +7,7 @@ pub mod Sum
 pub mod Heat
 pub mod Settles
 pub mod Cross
+pub mod Least
 pub mod Exact
 pub mod Lag
 pub mod LagMoves

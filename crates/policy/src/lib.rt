@@ -10,6 +10,7 @@ ghost use Rattle.policy.specs.Accounts.{plain, weightOf, setWeight, setW
 ghost use Rattle.policy.specs.Standing.{inFlight};
 ghost use Rattle.policy.specs.Accounting.{schedulable, floor, accounted};
 ghost use Rattle.policy.specs.Loops.{undercuts, leader, Leads, liftedTo, renewedAt};
+use service::Service;
 use system::Answer;
 use system::DomId;
 use system::RunState;
@@ -119,7 +120,7 @@ pub fn in_flight(v: VirtualCpu, now: Ticks) -> u64
 }
 
 /// A vCPU's service: run time, the part in flight and the offset.
-pub fn service_of(v: VirtualCpu, a: Account, now: Ticks) -> [u32; 4]
+pub fn service_of(v: VirtualCpu, a: Account, now: Ticks) -> Service
     ensures { λ r. ⌜ r ≡ held (v .runtime + inFlight v now + value (a .offset)) ⌝ }
 {
     let offset = a.offset;

@@ -1,0 +1,72 @@
+-- Where no product is held, whoever is dispatched has the least service over weight, and is the earliest of those that have it.
+-- Assumes nothing.
+use Prim.Native.Nat.{ℕ, _*_, _^_, _≤_, _<_}
+use mathlib.Core.Bool.{true, false}
+use mathlib.Core.Path.{_≡_, sym, _∙_}
+use native.Mathlib.Nat.{le-refl}
+use native.Mathlib.Omega.{arith}
+use lib.Dec.{ltb}
+use borrow.Author.Tests.{ltb-true, ltb-false, lt-ltb, le-ltb}
+use Rattle.service.specs.Laws.{deserving-exact}
+use Rattle.system.specs.declared.System.{System}
+use Rattle.sched.specs.Legal.{CanRun}
+use Rattle.moves.specs.declared.Choice.the-variants.{Run}
+use Rattle.moves.specs.Scan.{Ranks}
+use Rattle.policy.specs.declared.Scheduler.{Scheduler}
+use Rattle.policy.specs.Standing.{slots, weightAt, serviceAt, deserves}
+use Rattle.advance.specs.Choices.{choice}
+use Rattle.advance.specs.ChoiceLaws.{present-is, choice-run, choice-least, choice-earliest}
+use Rattle.advance.specs.Cross.{before-trans, after-trans}
+
+-- no product that ranks two of the first n slots is held
+pub record Unheld (s : System) (π : Scheduler) (now n : ℕ) : Type 0 where
+  pub products : (i j : ℕ) → i < n → j < n → serviceAt s π now i * weightAt π j < 2 ^ 128
+
+pub weight-pos : (π : Scheduler) (i : ℕ) → 0 < weightAt π i
+weight-pos π i = omega arith
+
+module _ {s : System} {π : Scheduler} {now n : ℕ} (U : Unheld s π now n) where
+  S : ℕ → ℕ
+  S = serviceAt s π now
+
+  w : ℕ → ℕ
+  w = weightAt π
+
+  exact : (i j : ℕ) → i < n → j < n → deserves s π now i j ≡ ltb (serviceAt s π now i * weightAt π j) (serviceAt s π now j * weightAt π i)
+  unfolding deserves
+  exact i j l m = deserving-exact (serviceAt s π now i) (weightAt π i) (serviceAt s π now j) (weightAt π j) (U .products i j l m) (U .products j i m l)
+
+  pub before : (i j : ℕ) → i < n → j < n → deserves s π now i j ≡ true → serviceAt s π now i * weightAt π j < serviceAt s π now j * weightAt π i
+  before i j l m e = ltb-true _ _ (sym (exact i j l m) ∙ e)
+
+  pub not-before : (i j : ℕ) → i < n → j < n → deserves s π now i j ≡ false
+      → serviceAt s π now j * weightAt π i ≤ serviceAt s π now i * weightAt π j
+  not-before i j l m e = ltb-false _ _ (sym (exact i j l m) ∙ e)
+
+  pub unheld-ranks : Ranks (deserves s π now) n
+  unfolding S w
+  unheld-ranks =
+      record {
+        irrefl = λ i l. exact i i l l ∙ le-ltb (S i * w i) (S i * w i) (le-refl _);
+        trans = λ i j k a b c e f.
+            exact i k a c
+            ∙ lt-ltb _ _ (before-trans (S i) (w i) (S j) (w j) (S k) (w k) (weight-pos π k) (before i j a b e) (before j k b c f));
+        weak = λ i j k a b c e f.
+            exact i k a c
+            ∙ le-ltb _ _ (after-trans (S i) (w i) (S j) (w j) (S k) (w k) (weight-pos π j) (not-before i j a b e) (not-before j k b c f));
+      }
+
+module _ (s : System) (π : Scheduler) (now : ℕ) (U : Unheld s π now (slots s)) (i p j q : ℕ) (e : choice s π now ≡ Run i p) (c : CanRun s j q) where
+  here : i < slots s
+  here = present-is (choice-run s π now i p e .present) .0
+
+  there : j < slots s
+  there = present-is (c .present) .0
+
+  -- whoever else could be dispatched has no less
+  pub run-least : serviceAt s π now i * weightAt π j ≤ serviceAt s π now j * weightAt π i
+  run-least = not-before U j i there here (choice-least s π now i p j q (unheld-ranks U) e c)
+
+  -- and more, if it comes earlier
+  pub run-earliest : j < i → serviceAt s π now i * weightAt π j < serviceAt s π now j * weightAt π i
+  run-earliest l = before U i j here there (choice-earliest s π now i p j q (unheld-ranks U) e l c)
