@@ -19,6 +19,7 @@ use Rattle.moves.specs.declared.Choice.{Choice}
 use Rattle.moves.specs.declared.Choice.the-variants.{Run, Preempt, Rest}
 use Rattle.moves.specs.Scan.{Ranks}
 use Rattle.moves.specs.DecideLaws.{Fits, Beats, IsRun, IsStopped, run-fits, run-found, preempt-beaten, rest-unbeaten, pick-least, pick-earliest}
+use Rattle.moves.specs.DecideLaws.{victim-worst, victim-earliest}
 use Rattle.policy.specs.declared.Scheduler.{Scheduler}
 use Rattle.policy.specs.Standing.{slots, present, deserves}
 use Rattle.advance.specs.Choices.{isRunnable, isExpired, runsOn, standings, choice}
@@ -119,28 +120,34 @@ choice-beaten s π now i p e =
     let w = both _ _ (b .waits) in
     (k .by, record { present = is-present s (k .by) (b .below) (w .0); ready = is-runnable _ (w .1); affine = rw (k .on) at (b .admits); wins = b .wins })
 
+-- a runner that may be preempted is hot, and a rival beats it
+can-hot : (s : System) (π : Scheduler) (now i p : ℕ) → CanPreempt s π now i p → standings s π now .hot i ≡ true
+unfolding standings
+can-hot s π now i p c =
+    all-two (present-is (c .present) .1) (ap (isExpired (π .quantum) (elapsed (vcpuAt s i) now)) (c .on) ∙ le-leb _ _ (c .late))
+
+rival-beats : (s : System) (π : Scheduler) (now i p j : ℕ) → CanPreempt s π now i p → Rival s π now i p j → Beats (standings s π now) (slots s) i j
+unfolding standings
+rival-beats s π now i p j c r =
+    record {
+      below = present-is (r .present) .0;
+      waits = all-two (present-is (r .present) .1) (ap isRunnable (r .ready));
+      admits = rw (ap runsOn (c .on)) (r .affine);
+      wins = r .wins;
+    }
+
 -- at rest no runner past its slice has one
 pub choice-unbeaten : (s : System) (π : Scheduler) (now i p j : ℕ) → choice s π now ≡ Rest → CanPreempt s π now i p → Present s j
     → stateAt s j ≡ Runnable → admits s j p ≡ true → deserves s π now j i ≡ false
-unfolding choice standings
+unfolding choice
 choice-unbeaten s π now i p j e c h r a = go (deserves s π now j i) refl
   where
-    hot′ : (present s i && isExpired (π .quantum) (elapsed (vcpuAt s i) now) (stateAt s i)) ≡ true
-    hot′ = all-two (present-is (c .present) .1) (ap (isExpired (π .quantum) (elapsed (vcpuAt s i) now)) (c .on) ∙ le-leb _ _ (c .late))
-
-    on′ : runsOn (stateAt s i) ≡ p
-    on′ = ap runsOn (c .on)
-
     go : (b : Bool) → deserves s π now j i ≡ b → b ≡ false
     go false x = refl
     go true x =
-        absurd (rest-unbeaten (standings s π now) (slots s) i j e (present-is (c .present) .0) hot′
-        (record {
-          below = present-is h .0;
-          waits = all-two (present-is h .1) (ap isRunnable r);
-          admits = rw on′ a;
-          wins = x;
-        }))
+        absurd
+        (rest-unbeaten (standings s π now) (slots s) i j e (present-is (c .present) .0) (can-hot s π now i p c)
+        (rival-beats s π now i p j c (record { present = h; ready = r; affine = a; wins = x })))
 
 -- where vCPUs are ranked, nobody who might be dispatched deserves it more than who is
 pub choice-least : (s : System) (π : Scheduler) (now i p j q : ℕ) → Ranks (deserves s π now) (slots s) → choice s π now ≡ Run i p → CanRun s j q
@@ -153,3 +160,16 @@ pub choice-earliest : (s : System) (π : Scheduler) (now i p j q : ℕ) → Rank
     → CanRun s j q → deserves s π now i j ≡ true
 unfolding choice standings
 choice-earliest s π now i p j q R e l c = pick-earliest (standings s π now) (slots s) R i p j q e l (can-fits s π now j q c)
+
+-- nobody who might be preempted deserves it more than who is; the earliest is, of those that deserve it alike
+pub choice-worst : (s : System) (π : Scheduler) (now i p j q k : ℕ) → Ranks (deserves s π now) (slots s) → choice s π now ≡ Preempt i p
+    → CanPreempt s π now j q → Rival s π now j q k → deserves s π now i j ≡ false
+unfolding choice standings
+choice-worst s π now i p j q k R e c r =
+    victim-worst (standings s π now) (slots s) R i p j k e (present-is (c .present) .0) (can-hot s π now j q c) (rival-beats s π now j q k c r)
+
+pub choice-worst-earliest : (s : System) (π : Scheduler) (now i p j q k : ℕ) → Ranks (deserves s π now) (slots s) → choice s π now ≡ Preempt i p
+    → j < i → CanPreempt s π now j q → Rival s π now j q k → deserves s π now j i ≡ true
+unfolding choice standings
+choice-worst-earliest s π now i p j q k R e l c r =
+    victim-earliest (standings s π now) (slots s) R i p j k e l (can-hot s π now j q c) (rival-beats s π now j q k c r)

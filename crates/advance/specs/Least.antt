@@ -1,5 +1,5 @@
--- Where no product is held, whoever is dispatched has the least service over weight, and is the earliest of those that have it.
--- Assumes nothing.
+-- Where no product is held, whoever is dispatched has the least service over weight, and whoever is preempted the most; each is
+-- the earliest of those that have it. Assumes nothing.
 use Prim.Native.Nat.{ℕ, _*_, _^_, _≤_, _<_}
 use mathlib.Core.Bool.{true, false}
 use mathlib.Core.Path.{_≡_, sym, _∙_}
@@ -10,12 +10,13 @@ use borrow.Author.Tests.{ltb-true, ltb-false, lt-ltb, le-ltb}
 use Rattle.service.specs.Laws.{deserving-exact}
 use Rattle.system.specs.declared.System.{System}
 use Rattle.sched.specs.Legal.{CanRun}
-use Rattle.moves.specs.declared.Choice.the-variants.{Run}
+use Rattle.moves.specs.declared.Choice.the-variants.{Run, Preempt}
 use Rattle.moves.specs.Scan.{Ranks}
 use Rattle.policy.specs.declared.Scheduler.{Scheduler}
 use Rattle.policy.specs.Standing.{slots, weightAt, serviceAt, deserves}
 use Rattle.advance.specs.Choices.{choice}
-use Rattle.advance.specs.ChoiceLaws.{present-is, choice-run, choice-least, choice-earliest}
+use Rattle.advance.specs.ChoiceLaws.{CanPreempt, Rival, present-is, choice-run, choice-preempt}
+use Rattle.advance.specs.ChoiceLaws.{choice-least, choice-earliest, choice-worst, choice-worst-earliest}
 use Rattle.advance.specs.Cross.{before-trans, after-trans}
 
 -- no product that ranks two of the first n slots is held
@@ -70,3 +71,19 @@ module _ (s : System) (π : Scheduler) (now : ℕ) (U : Unheld s π now (slots s
   -- and more, if it comes earlier
   pub run-earliest : j < i → serviceAt s π now i * weightAt π j < serviceAt s π now j * weightAt π i
   run-earliest l = before U i j here there (choice-earliest s π now i p j q (unheld-ranks U) e l c)
+
+module _ (s : System) (π : Scheduler) (now : ℕ) (U : Unheld s π now (slots s)) (i p j q k : ℕ) (e : choice s π now ≡ Preempt i p)
+    (c : CanPreempt s π now j q) (r : Rival s π now j q k) where
+  at-slot : i < slots s
+  at-slot = present-is (choice-preempt s π now i p e .present) .0
+
+  other-slot : j < slots s
+  other-slot = present-is (c .present) .0
+
+  -- whoever else could be preempted has no more
+  pub preempt-most : serviceAt s π now j * weightAt π i ≤ serviceAt s π now i * weightAt π j
+  preempt-most = not-before U i j at-slot other-slot (choice-worst s π now i p j q k (unheld-ranks U) e c r)
+
+  -- and less, if it comes earlier
+  pub preempt-earliest : j < i → serviceAt s π now j * weightAt π i < serviceAt s π now i * weightAt π j
+  preempt-earliest l = before U j i other-slot at-slot (choice-worst-earliest s π now i p j q k (unheld-ranks U) e l c r)
