@@ -5,6 +5,7 @@ use mathlib.Core.Path.{_≡_, refl, sym, _∙_, ap, subst}
 use native.Mathlib.Omega.{arith}
 use lib.Dec.{ltb, leb}
 use borrow.Author.Tests.{ltb-true, lt-ltb, leb-true, le-leb}
+use Rattle.masks.specs.Conj.{both, all-two}
 use Rattle.masks.specs.Masks.{permits}
 use Rattle.system.specs.declared.RunState.{RunState}
 use Rattle.system.specs.declared.RunState.the-variants.{Offline, Runnable, Running, Blocked}
@@ -23,13 +24,6 @@ use Rattle.moves.specs.DecideLaws.{victim-worst, victim-earliest}
 use Rattle.policy.specs.declared.Scheduler.{Scheduler}
 use Rattle.policy.specs.Standing.{slots, present, deserves}
 use Rattle.advance.specs.Choices.{isRunnable, isExpired, runsOn, standings, choice}
-
-both : (a b : Bool) → (a && b) ≡ true → (a ≡ true) × (b ≡ true)
-both true b e = (refl, e)
-both false b e = absurd (false≢true e)
-
-all-two : {a b : Bool} → a ≡ true → b ≡ true → (a && b) ≡ true
-all-two e f = rw (e, f)
 
 is-runnable : (st : RunState) → isRunnable st ≡ true → st ≡ Runnable
 is-runnable Offline e = absurd (false≢true e)

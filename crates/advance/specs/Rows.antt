@@ -10,6 +10,7 @@ use lib.Dec.{ltb, leb, eqb}
 use lib.ListN.{length, getD, set}
 use lib.Seq.{getD-set-same, getD-set-other}
 use borrow.Author.Tests.{lt-ltb, le-leb, ne-eqb}
+use Rattle.masks.specs.Conj.{both}
 use Rattle.masks.specs.Masks.{permits}
 use Rattle.masks.specs.Sets.{setOf, setOf-permits}
 use Rattle.service.specs.Service.{value, held, moreDeserving}
@@ -64,10 +65,6 @@ idleAt s p = ltb p (pcpus s) && isIdle (occupantAt s p)
 
 unfoldable pub idleSet : System → ℕ
 idleSet s = setOf (λ p. idleAt s p) 64
-
-both : (a b : Bool) → (a && b) ≡ true → (a ≡ true) × (b ≡ true)
-both true b e = (refl, e)
-both false b e = absurd (false≢true e)
 
 -- ---- a kind tells who waits and who is hot
 

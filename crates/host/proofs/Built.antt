@@ -3,14 +3,11 @@ use Prim.Native.Nat.{ℕ}
 use mathlib.Core.Bool.{Bool, true, false, _&&_, false≢true}
 use mathlib.Core.Path.{_≡_, refl}
 use lib.Dec.{leb}
+use Rattle.masks.specs.Conj.{both}
 use Rattle.system.specs.Answers.{Outcome}
 use Rattle.system.specs.Shape as system
 use Rattle.policy.specs.Accounts.{PolicyOutcome, builtPolicy}
 use Rattle.host.specs.Handed.{handedBy, built}
-
-both : (a b : Bool) → (a && b) ≡ true → (a ≡ true) × (b ≡ true)
-both true b e = (refl, e)
-both false b e = absurd (false≢true e)
 
 module _ (d v p q : ℕ) (a : PolicyOutcome) (o : Outcome) (made : o ≡ system.built d v p) where
   pub built-fitting : system.fits d v p ≡ true → a ≡ builtPolicy d v q → handedBy (a .policy) o ≡ built d v p q

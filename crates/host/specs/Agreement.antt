@@ -5,6 +5,7 @@ use mathlib.Core.Path.{_≡_, refl, sym, _∙_, ap, subst}
 use native.Mathlib.Omega.{arith}
 use lib.Dec.{ltb, eqb}
 use borrow.Author.Tests.{ltb-true, lt-ltb, eqb-true, eq-eqb}
+use Rattle.masks.specs.Conj.{both}
 use Rattle.system.specs.declared.RunState.{RunState}
 use Rattle.system.specs.declared.RunState.the-variants.{Offline, Runnable, Running, Blocked}
 use Rattle.system.specs.declared.VirtualCpu.{VirtualCpu}
@@ -44,10 +45,6 @@ runs-on p Offline e = absurd (false≢true e)
 runs-on p Runnable e = absurd (false≢true e)
 runs-on p (Running q) e = ap Running (eqb-true q p e)
 runs-on p Blocked e = absurd (false≢true e)
-
-both : (a b : Bool) → (a && b) ≡ true → (a ≡ true) × (b ≡ true)
-both true b e = (refl, e)
-both false b e = absurd (false≢true e)
 
 -- in a sound system whoever is Running on a pCPU holds it, and only that one
 pub holder-agrees : (k : Shape) (b : Book) (s : System) (p : ℕ) → Shaped k s → Sound s → Lines b s → p < k .pcpus

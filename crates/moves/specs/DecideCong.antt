@@ -4,6 +4,7 @@ use mathlib.Core.Bool.{Bool, true, false, _&&_, false≢true}
 use mathlib.Core.Path.{_≡_, refl, _∙_, ap, ap₂}
 use mathlib.Core.Logic.{_⊎_, inl, inr}
 use lib.Dec.{ltb}
+use Rattle.masks.specs.Conj.{both}
 use Rattle.masks.specs.Masks.{permits}
 use Rattle.masks.specs.Laws.{first-cong}
 use Rattle.moves.specs.declared.Choice.the-variants.{Run, Preempt}
@@ -27,10 +28,6 @@ pub record Alike (t t′ : Standings) (n : ℕ) : Type 0 where
 and-cong : (a a′ b b′ : Bool) → a ≡ a′ → (a ≡ true → b ≡ b′) → (a && b) ≡ (a′ && b′)
 and-cong true a′ b b′ e f = rw (← e) (f refl)
 and-cong false a′ b b′ e f = rw (← e)
-
-both : (a b : Bool) → (a && b) ≡ true → (a ≡ true) × (b ≡ true)
-both true b e = (refl, e)
-both false b e = absurd (false≢true e)
 
 module _ {t t′ : Standings} {n : ℕ} (A : Alike t t′ n) where
   placement-same : (i : ℕ) → i < n → t .waits i ≡ true → placement t i ≡ placement t′ i

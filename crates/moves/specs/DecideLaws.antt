@@ -6,6 +6,7 @@ use native.Mathlib.Nat.{le-refl, lt-of-not-le}
 use native.Mathlib.Decide.{decLe}
 use native.Mathlib.Omega.{arith}
 use borrow.Author.Tests.{ltb-true, lt-ltb}
+use Rattle.masks.specs.Conj.{both, all-two}
 use Rattle.masks.specs.Masks.{permits, first}
 use Rattle.masks.specs.Laws.{first-least}
 use Rattle.moves.specs.declared.Choice.{Choice}
@@ -26,13 +27,6 @@ pub record Beats (t : Standings) (n i j : ℕ) : Type 0 where
   pub waits : t .waits j ≡ true
   pub admits : permits (t .mask j) (t .on i) ≡ true
   pub wins : t .beats j i ≡ true
-
-both : (a b : Bool) → (a && b) ≡ true → (a ≡ true) × (b ≡ true)
-both true b e = (refl, e)
-both false b e = absurd (false≢true e)
-
-all-two : {a b : Bool} → a ≡ true → b ≡ true → (a && b) ≡ true
-all-two e f = rw (e, f)
 
 -- ---- placement: what it gives fits, and it gives one if one fits
 

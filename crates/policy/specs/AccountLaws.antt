@@ -10,6 +10,7 @@ use lib.Dec.{ltb}
 use lib.ListN.{length, getD, set, length-set, length-map, List·getD-map}
 use lib.Seq.{getD-set-same, getD-set-other}
 use borrow.Author.Tests.{ltb-true}
+use Rattle.masks.specs.Conj.{both}
 use Rattle.service.specs.Service.{value}
 use Rattle.system.specs.declared.System.{System}
 use Rattle.system.specs.Reads.{slot}
@@ -71,10 +72,6 @@ covers-below π d v e =
     let x = ltb-true d (min (π .«domain_count») 16) (f .0) in
     let y = ltb-true v (min (π .«vcpus_per_domain») 8) (f .1) in
     (omega arith, omega arith)
-  where
-    both : (a b : Bool) → (a && b) ≡ true → (a ≡ true) × (b ≡ true)
-    both true b h = (refl, h)
-    both false b h = absurd (false≢true h)
 
 -- ---- what is looked up after an account was put
 
@@ -246,10 +243,6 @@ unfolding floor
 floor-stayed s π now f e =
     let h = scan-sound (λ i. present s i && (pooled s i && wasSchedulable π (i / 8) (i % 8))) (deserves s π now) (slots s) f e in
     both (pooled s f) _ (both (present s f) _ (h .1) .1)
-  where
-    both : (a b : Bool) → (a && b) ≡ true → (a ≡ true) × (b ≡ true)
-    both true b h = (refl, h)
-    both false b h = absurd (false≢true h)
 
 -- ---- a weight set, offsets cleared
 

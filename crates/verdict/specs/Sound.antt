@@ -7,6 +7,7 @@ use native.Mathlib.Nat.{eq-or-lt-of-le}
 use native.Mathlib.Omega.{arith}
 use lib.Dec.{ltb}
 use borrow.Author.Tests.{ltb-true, leb-true, eqb-true, eq-eqb, lt-ltb, le-leb}
+use Rattle.masks.specs.Conj.{both}
 use Rattle.masks.specs.Masks.{permits}
 use Rattle.system.specs.declared.RunState.{RunState}
 use Rattle.system.specs.declared.RunState.the-variants.{Offline, Runnable, Running, Blocked}
@@ -72,10 +73,6 @@ earliest-all f (suc n) e i l =
 passed : (b : Bool) (x w : Violation) → isNone w ≡ false → cond b x w ≡ None → (b ≡ true) × (x ≡ None)
 passed true x w n e = (refl, e)
 passed false x w n e = absurd (false≢true (sym n ∙ ap isNone e))
-
-both : (a b : Bool) → (a && b) ≡ true → (a ≡ true) × (b ≡ true)
-both true b e = (refl, e)
-both false b e = absurd (false≢true e)
 
 named : (o : Occupant) (d v : ℕ) → names o d v ≡ true → o ≡ Vcpu d v
 named Idle d v e = absurd (false≢true e)

@@ -1,0 +1,10 @@
+-- Two tests that hold together. Assumes nothing.
+use mathlib.Core.Path.{_≡_, refl}
+use mathlib.Core.Bool.{Bool, true, false, _&&_, false≢true}
+
+pub both : (a b : Bool) → (a && b) ≡ true → (a ≡ true) × (b ≡ true)
+both true b e = (refl, e)
+both false b e = absurd (false≢true e)
+
+pub all-two : {a b : Bool} → a ≡ true → b ≡ true → (a && b) ≡ true
+all-two e f = rw (e, f)
