@@ -1,0 +1,26 @@
+-- `records::word` meets its contract. Assumes nothing.
+use Prim.Native.Nat.{_+_}
+use native.Mathlib.Omega.{arith}
+use borrow.Author.Needs.{needs}
+use Rattle.records.specs.Records.{number-add}
+use Rattle.records.proofs.word.Statement.{statement}
+use Rattle.records.proofs.word.Tie as tie
+
+returns : tie.Need-returns
+returns c =
+    let high = c .before in
+    let a = high .before .before in (
+      omega (arith, number-add (a .args .bytes .now) (a .args .at) 2 2, high .half .ensures .0, c .half2 .ensures .0),
+      omega (arith, high .half .ensures .1, c .half2 .ensures .1),
+    )
+
+pub word-spec : {M : Type 1} → statement M
+word-spec =
+    tie.close
+    (tie.spec
+    (λ c κs. search needs)
+    (λ c. search needs)
+    (λ c. search needs)
+    (λ c κs. search needs)
+    (λ c. search needs)
+    returns)

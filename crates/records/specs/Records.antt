@@ -1,0 +1,72 @@
+-- A record of a script: 20 bytes, each field with its most significant byte first. Assumes nothing.
+use Prim.Native.Nat.{ℕ, zero, suc, _+_, _*_, _^_}
+use mathlib.Core.Bool.{Bool, cond, not}
+use mathlib.Core.Path.{_≡_, ap}
+use mathlib.Core.List.{List, [], _∷_}
+use native.Mathlib.Nat.{add-zero, add-suc, mul-assoc, pow-suc}
+use native.Mathlib.Omega.{arith}
+use lib.Dec.{ltb, eqb}
+use lib.ListN.{length, getD}
+use Rattle.system.specs.declared.Answer.the-variants.{TooLarge, BadScript}
+use Rattle.system.specs.Shape.{fits}
+use Rattle.host.specs.declared.Call.{Call}
+use Rattle.records.specs.declared.Record.{Record}
+use Rattle.records.specs.declared.MaybeCall.{MaybeCall}
+use Rattle.records.specs.declared.Plan.{Plan}
+
+-- what n bytes from index `at` on say
+unfoldable pub number : List ℕ → ℕ → ℕ → ℕ
+number bs at zero = 0
+number bs at (suc n) = number bs at n * 256 + getD bs (at + n) 0
+
+abbrev pub recordOf : List ℕ → Record
+recordOf bs =
+    record { kind = number bs 0 2; dom = number bs 2 2; vcpu = number bs 4 4; third = number bs 8 4; value = number bs 12 8 }
+
+-- the calls by their kinds, from 0 on; kind 0 calls no host, it builds one
+abbrev pub callsOf : Record → List MaybeCall
+callsOf r =
+    MaybeCall.None
+    ∷ MaybeCall.Some (Call.Admit (r .dom) (r .vcpu))
+    ∷ MaybeCall.Some (Call.Run (r .dom) (r .vcpu) (r .third) (r .value))
+    ∷ MaybeCall.Some (Call.Preempt (r .dom) (r .vcpu) (r .value))
+    ∷ MaybeCall.Some (Call.Block (r .dom) (r .vcpu) (r .value))
+    ∷ MaybeCall.Some (Call.Wake (r .dom) (r .vcpu))
+    ∷ MaybeCall.Some (Call.Offline (r .dom) (r .vcpu) (r .value))
+    ∷ MaybeCall.Some (Call.SetAffinity (r .dom) (r .vcpu) (r .value))
+    ∷ MaybeCall.Some (Call.SetWeight (r .dom) (r .vcpu) (r .third))
+    ∷ MaybeCall.Some (Call.Advance (r .value))
+    ∷ MaybeCall.Some (Call.SetWakeBoost (not (eqb (r .value) 0)))
+    ∷ []
+
+abbrev pub callOf : Record → MaybeCall
+callOf r = getD (callsOf r) (r .kind) MaybeCall.None
+
+-- a build of that shape and slice, if it is within the sizes
+abbrev pub buildOf : Record → Plan
+buildOf r = cond (fits (r .dom) (r .vcpu) (r .third)) (Plan.Build (r .dom) (r .vcpu) (r .third) (r .value)) (Plan.Refuse TooLarge)
+
+-- a call, if there is a host
+abbrev pub afterBuild : Bool → MaybeCall → Plan
+afterBuild built MaybeCall.None = Plan.Refuse BadScript
+afterBuild built (MaybeCall.Some c) = cond built (Plan.Call c) (Plan.Refuse BadScript)
+
+abbrev pub planned : Bool → Record → Plan
+planned built r = cond (eqb (r .kind) 0) (buildOf r) (afterBuild built (callOf r))
+
+-- what a script does of the record at the start of what is left of it
+unfoldable pub planOf : Bool → List ℕ → Plan
+planOf built bs = cond (ltb (length bs) 20) (Plan.Refuse BadScript) (planned built (recordOf bs))
+
+-- a number of m + n bytes is one of m bytes before one of n
+pub number-add : (bs : List ℕ) (at m n : ℕ) → number bs at (m + n) ≡ number bs at m * 256 ^ n + number bs (at + m) n
+unfolding number
+number-add bs at m zero = rw (add-zero m) (omega arith)
+number-add bs at m (suc n) =
+    let here : getD bs (at + (m + n)) 0 ≡ getD bs ((at + m) + n) 0 = ap (λ i. getD bs i 0) (omega arith) in
+    let scaled = mul-assoc (number bs at m) (256 ^ n) 256 in
+    rw (add-suc m n, pow-suc 256 n) (omega (arith, number-add bs at m n, here, scaled))
+
+pub number-one : (bs : List ℕ) (at : ℕ) → number bs at 1 ≡ getD bs at 0
+unfolding number
+number-one bs at = rw (add-zero at) (omega arith)

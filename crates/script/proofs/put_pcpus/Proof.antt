@@ -1,0 +1,67 @@
+-- `script::put_pcpus` meets its contract. Assumes nothing.
+use Prim.Native.Nat.{ℕ, _+_, _*_, _-_, _≤_, zero-le}
+use mathlib.Core.Path.{_≡_, refl, sym, _∙_, ap, subst}
+use mathlib.Core.List.{List}
+use lib.ListN.{length-map}
+use native.Mathlib.Numerals.{add-one}
+use native.Mathlib.Omega.{arith}
+use borrow.Author.Needs.{needs}
+use Rattle.system.specs.Reads.{pcpus, occupantAt}
+use Rattle.text.specs.Places.{Placed, placed-none, placed-then}
+use Rattle.script.specs.Rows.{pcpuRows}
+use Rattle.script.proofs.put_pcpus.Statement.{statement}
+use Rattle.script.proofs.put_pcpus.Tie as tie
+
+abbrev Inv-loop : tie.InvT-loop
+Inv-loop out₀ at s n past₀ p₀ out past p =
+    Placed out₀ at (pcpuRows s p) out past × (p ≤ n) × (past ≤ at + p * 66) × (lib.ListN.length out ≡ lib.ListN.length out₀)
+
+abbrev μ-loop : tie.MeasureT-loop
+μ-loop out₀ at s n past₀ p₀ out past p = n - p
+
+loop-holds : tie.Need-loop-holds Inv-loop μ-loop
+unfolding pcpuRows
+loop-holds c = let a = c .before .before .args in (placed-none (a .out .now) (a .at), zero-le, omega arith, refl)
+
+room : tie.Need-put-pcpu-requires Inv-loop μ-loop
+room c κs = let l = c .before .before .before in omega (arith, l .loop .inv, l .before .least .ensures, l .before .before .before .pre)
+
+loop-again : tie.Need-loop-again Inv-loop μ-loop
+unfolding pcpuRows occupantAt
+loop-again c =
+    let put = c .before .before .put-pcpu in
+    let l = c .before .before .before .before .before .before in
+    let start = l .before .before .before in
+    let a = start .args in
+    let more = placed-then (omega (arith, start .pre)) (l .loop .inv .0) (put .ensures .0) in (
+      subst (λ (t : List ℕ). Placed (a .out .now) (a .at) t (put .last .0) (put .result)) (sym (ap (pcpuRows (a .t3)) (add-one (l .loop .p)))) more,
+      omega arith,
+      omega (arith, put .ensures .1),
+      put .kept .0 ∙ l .loop .inv .3,
+    )
+
+returns : tie.Need-returns Inv-loop μ-loop
+returns c =
+    let l = c .before in
+    let a = l .before .before .before .args in
+    let all : l .loop .p ≡ pcpus (a .t3) = omega (arith, l .before .least .ensures) in (
+      subst (λ (n : ℕ). Placed (a .out .now) (a .at) (pcpuRows (a .t3) n) (l .loop .out) (l .loop .past)) all (l .loop .inv .0),
+      omega (arith, l .before .least .ensures),
+    )
+
+pub put-pcpus-spec : {M : Type 1} → statement M
+put-pcpus-spec =
+    tie.close
+    (tie.spec
+    Inv-loop
+    μ-loop
+    (λ c κs. search needs)
+    loop-holds
+    (λ c. omega (arith, c .before .before .least .ensures))
+    (λ c. omega (arith, c .before .before .least .ensures))
+    room
+    (λ c. omega (arith, c .before .before .before .before .before .before .before .least .ensures))
+    (λ c. omega arith)
+    loop-again
+    (λ c. c .before .loop .inv .3)
+    returns)

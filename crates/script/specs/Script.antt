@@ -1,0 +1,77 @@
+-- A script: what each record is told, and the text that is written of it.
+use Prim.Native.Nat.{ℕ, zero, suc, _+_, _*_, _/_, _%_, _^_, min}
+use mathlib.Core.Bool.{Bool, true, false, cond, _&&_}
+use mathlib.Core.List.{List, [], _++_}
+use lib.ListN.{length, drop}
+use Rattle.system.specs.Answers.{told}
+use Rattle.host.specs.declared.Host.{Host}
+use Rattle.host.specs.Step.{step, freshHost}
+use Rattle.host.specs.Handed.{Handed, counted, built}
+use Rattle.records.specs.declared.Plan.{Plan}
+use Rattle.records.specs.Records.{planOf}
+use Rattle.text.specs.Lines.{answerLine}
+use Rattle.script.specs.declared.Script.{Script}
+use Rattle.script.specs.Rows.{hostText}
+
+-- a script of which nothing was read: no host is built yet
+abbrev pub begun : Script
+begun = record { number = 0; built = false; host = freshHost 0 0 0 0 0 0 }
+
+-- what a host is told: a refused record leaves it as it is
+unfoldable pub carried : Host → Plan → Handed
+carried h (Plan.Refuse a) = record { number = told a; host = h; count = 0 }
+carried h (Plan.Build d v p q) = built d v p q
+carried h (Plan.Call c) = counted (step h c)
+
+-- whether there is a host after it
+abbrev pub builtAfter : Bool → Plan → Bool
+builtAfter b (Plan.Refuse a) = b
+builtAfter b (Plan.Build d v p q) = true
+builtAfter b (Plan.Call c) = b
+
+-- the record at the start of what is left of a script: what it does, what it is told, the script after it
+abbrev pub planned : Script → List ℕ → Plan
+planned c bs = planOf (c .built) bs
+
+abbrev pub answered : Script → List ℕ → Handed
+answered c bs = carried (c .host) (planned c bs)
+
+unfoldable pub next : Script → List ℕ → Script
+next c bs =
+    record {
+      number = (c .number + 1) % 2 ^ 64;
+      built = builtAfter (c .built) (planned c bs);
+      host = (answered c bs) .host;
+    }
+
+abbrev pub lineOf : Script → List ℕ → List ℕ
+lineOf c bs = answerLine ((c .number + 1) % 2 ^ 64) ((answered c bs) .number) ((answered c bs) .count)
+
+-- the host after it, where it is asked for and there is one
+abbrev pub stateOf : Bool → Script → List ℕ
+stateOf states c = cond (states && c .built) (hostText (c .host)) []
+
+unfoldable pub entry : Bool → Script → List ℕ → List ℕ
+entry states c bs = lineOf c bs ++ stateOf states (next c bs)
+
+-- the script after n records, and the text of them; a record has 20 bytes
+unfoldable pub after : Script → List ℕ → ℕ → Script
+after c bs zero = c
+after c bs (suc n) = next (after c bs n) (drop (n * 20) bs)
+
+unfoldable pub text : Bool → Script → List ℕ → ℕ → List ℕ
+text states c bs zero = []
+text states c bs (suc n) = text states c bs n ++ entry states (after c bs n) (drop (n * 20) bs)
+
+-- how many records some bytes are: the last may be cut off
+abbrev pub recordsIn : List ℕ → ℕ
+recordsIn bs = (length bs + 19) / 20
+
+-- the most bytes that a record's text takes
+abbrev pub room : Bool → ℕ
+room true = 26000
+room false = 63
+
+-- as many records as there are, and as there is room for
+abbrev pub taken : Bool → List ℕ → List ℕ → ℕ
+taken states bs out = min (recordsIn bs) (length out / room states)

@@ -1,0 +1,306 @@
+//! Scripts: the calls of a host as records of 20 bytes, a line for what each is told and, where it
+//! is asked for, the whole host after it.
+
+ghost use mathlib.Core.Path.{_≡_};
+ghost use mathlib.Core.Bool.{_&&_};
+ghost use Prim.Native.Nat.{_+_, _*_, _/_, _%_, _≤_, _<_, min};
+ghost use lib.ListN.{length};
+ghost use Rattle.system.specs.Answers.{told};
+ghost use Rattle.system.specs.Reads.{domains, pcpus};
+ghost use Rattle.policy.specs.Accounts.{weightOf};
+ghost use Rattle.host.specs.Handed.{handed};
+ghost use Rattle.text.specs.Lines.{answerLine};
+ghost use Rattle.text.specs.Places.{Placed};
+ghost use Rattle.script.specs.Rows.{stateNumber, pcpuNumber, clockNumber, slotRow, pcpuRow, vcpuRows, pcpuRows, hostText};
+ghost use Rattle.script.specs.Script.{begun, carried, builtAfter, stateOf, recordsIn, room, taken, after};
+use host::Host;
+use host::Outcome;
+use policy::Scheduler;
+use records::Plan;
+use system::Answer;
+use system::Occupant;
+use system::PhysicalCpu;
+use system::RunState;
+use system::System;
+use system::VirtualCpu;
+
+/// A script that is under way: how many records it had, and its host, once one is built.
+pub struct Script {
+    pub number: u64,
+    pub built: bool,
+    pub host: Host,
+}
+
+/// How far a stretch of a script was taken: the script after it, its records, and the bytes written.
+pub struct Taken {
+    pub script: Script,
+    pub records: usize,
+    pub written: usize,
+}
+
+impl Script {
+    /// A script of which nothing was read.
+    pub fn new() -> Script
+        ensures { λ r. ⌜ r ≡ begun ⌝ }
+    {
+        let none = Host::new(0, 0, 0, 0);
+        let host = none.host;
+        Script {
+            number: 0,
+            built: false,
+            host,
+        }
+    }
+}
+
+// ---- one record
+
+// What the host is told, and the host after it.
+fn carried(h: Host, plan: Plan) -> Outcome
+    ensures { λ r. ⌜ handed r ≡ carried h plan ⌝ }
+{
+    match plan {
+        Plan::Refuse(answer) => Outcome {
+            answer,
+            host: h,
+            count: 0,
+        },
+        Plan::Build {
+            num_domains,
+            vcpus_per_domain,
+            num_pcpus,
+            quantum,
+        } => Host::new(num_domains, vcpus_per_domain, num_pcpus, quantum),
+        Plan::Call(call) => host::step(h, call),
+    }
+}
+
+fn built_after(built: bool, plan: Plan) -> bool
+    ensures { λ r. ⌜ r ≡ builtAfter built plan ⌝ }
+{
+    match plan {
+        Plan::Refuse(_) => built,
+        Plan::Build {
+            num_domains: _,
+            vcpus_per_domain: _,
+            num_pcpus: _,
+            quantum: _,
+        } => true,
+        Plan::Call(_) => built,
+    }
+}
+
+fn number_of(answer: Answer) -> u64
+    ensures { λ r. ⌜ r ≡ told answer ⌝ }
+{
+    match answer {
+        Answer::Done => 0,
+        Answer::BadDomain => 1,
+        Answer::BadVcpu => 2,
+        Answer::BadPcpu => 3,
+        Answer::WrongState => 4,
+        Answer::PcpuBusy => 5,
+        Answer::NotAffine => 6,
+        Answer::TooLarge => 7,
+        Answer::Unsound => 8,
+        Answer::BadScript => 9,
+    }
+}
+
+fn put_answer(out: &mut [u8], at: usize, number: u64, answer: Answer, moves: usize) -> usize
+    requires { ⌜ at + 63 ≤ length (now out) ⌝ }
+    ensures { λ r. ⌜ Placed (now (out .entry)) at (answerLine number (told answer) moves) (now (out .exit)) r ⌝ }
+    ensures { λ r. ⌜ r ≤ at + 63 ⌝ }
+{
+    let line = text::answer_line(number, number_of(answer), moves as u64);
+    text::append(out, at, line)
+}
+
+// ---- the host after it
+
+fn state_number(state: RunState) -> u64
+    ensures { λ r. ⌜ r ≡ stateNumber state ⌝ }
+{
+    match state {
+        RunState::Offline => 0,
+        RunState::Runnable => 1,
+        RunState::Running { pcpu: _ } => 2,
+        RunState::Blocked => 3,
+    }
+}
+
+fn pcpu_number(state: RunState) -> u64
+    ensures { λ r. ⌜ r ≡ pcpuNumber state ⌝ }
+{
+    match state {
+        RunState::Offline => 64,
+        RunState::Runnable => 64,
+        RunState::Running { pcpu } => pcpu as u64,
+        RunState::Blocked => 64,
+    }
+}
+
+fn clock_number(dispatched_at: u64, state: RunState) -> u64
+    ensures { λ r. ⌜ r ≡ clockNumber «dispatched_at» state ⌝ }
+{
+    match state {
+        RunState::Offline => 0,
+        RunState::Runnable => 0,
+        RunState::Running { pcpu: _ } => dispatched_at,
+        RunState::Blocked => 0,
+    }
+}
+
+// The line of slot i, where a domain has k vCPUs.
+fn put_vcpu(out: &mut [u8], at: usize, i: usize, k: usize, v: VirtualCpu, weight: u32) -> usize
+    requires { ⌜ at + 169 ≤ length (now out) ⌝ }
+    ensures { λ r. ⌜ Placed (now (out .entry)) at (slotRow k i v weight) (now (out .exit)) r ⌝ }
+    ensures { λ r. ⌜ r ≤ at + 169 ⌝ }
+{
+    if k <= i % 8 {
+        return at;
+    }
+    let state = v.state;
+    let line = text::vcpu_line([
+        (i / 8) as u64,
+        (i % 8) as u64,
+        state_number(state),
+        pcpu_number(state),
+        clock_number(v.dispatched_at, state),
+        v.runtime,
+        v.affinity,
+        weight as u64,
+    ]);
+    text::append(out, at, line)
+}
+
+fn put_pcpu(out: &mut [u8], at: usize, p: usize, held: PhysicalCpu) -> usize
+    requires { ⌜ at + 66 ≤ length (now out) ⌝ }
+    ensures { λ r. ⌜ Placed (now (out .entry)) at (pcpuRow p (held .occupant)) (now (out .exit)) r ⌝ }
+    ensures { λ r. ⌜ r ≤ at + 66 ⌝ }
+{
+    let occupant = held.occupant;
+    match occupant {
+        Occupant::Idle => at,
+        Occupant::Vcpu { dom, vcpu } => {
+            let line = text::pcpu_line(p as u64, dom as u64, vcpu as u64);
+            text::append(out, at, line)
+        }
+    }
+}
+
+fn put_vcpus(out: &mut [u8], at: usize, s: System, p: Scheduler) -> usize
+    requires { ⌜ at + 21632 ≤ length (now out) ⌝ }
+    ensures { λ r. ⌜ Placed (now (out .entry)) at (vcpuRows s p (domains s * 8)) (now (out .exit)) r ⌝ }
+    ensures { λ r. ⌜ r ≤ at + 21632 ⌝ }
+{
+    let n = least(s.domain_count, system::MAX_DOMAINS) * 8;
+    let k = least(s.vcpus_per_domain, system::MAX_VCPUS);
+    let mut past = at;
+    let mut i: usize = 0;
+    while i < n {
+        let v = s.vcpus[i];
+        let a = p.accounts[i];
+        let account = policy::looked_up(p.domain_count, p.vcpus_per_domain, i, a);
+        past = put_vcpu(out, past, i, k, v, policy::used_weight(account));
+        i += 1;
+    }
+    past
+}
+
+fn put_pcpus(out: &mut [u8], at: usize, s: System) -> usize
+    requires { ⌜ at + 4224 ≤ length (now out) ⌝ }
+    ensures { λ r. ⌜ Placed (now (out .entry)) at (pcpuRows s (pcpus s)) (now (out .exit)) r ⌝ }
+    ensures { λ r. ⌜ r ≤ at + 4224 ⌝ }
+{
+    let n = least(s.pcpu_count, system::MAX_PCPUS);
+    let mut past = at;
+    let mut p: usize = 0;
+    while p < n {
+        let held = s.pcpus[p];
+        past = put_pcpu(out, past, p, held);
+        p += 1;
+    }
+    past
+}
+
+fn put_host(out: &mut [u8], at: usize, h: Host) -> usize
+    requires { ⌜ at + 25856 ≤ length (now out) ⌝ }
+    ensures { λ r. ⌜ Placed (now (out .entry)) at (hostText h) (now (out .exit)) r ⌝ }
+    ensures { λ r. ⌜ r ≤ at + 25856 ⌝ }
+{
+    let s = h.system;
+    let p = h.scheduler;
+    let past = put_vcpus(out, at, s, p);
+    put_pcpus(out, past, s)
+}
+
+fn least(a: usize, b: usize) -> usize
+    ensures { λ r. ⌜ r ≡ min a b ⌝ }
+{
+    if a < b { a } else { b }
+}
+
+// ---- a stretch of a script
+
+fn records_in(n: usize) -> usize
+    ensures { λ r. ⌜ r ≡ (n + 19) / 20 ⌝ }
+{
+    if n % records::RECORD == 0 {
+        n / records::RECORD
+    } else {
+        n / records::RECORD + 1
+    }
+}
+
+fn room_of(states: bool) -> usize
+    ensures { λ r. ⌜ r ≡ room states ⌝ }
+{
+    if states { 26000 } else { 63 }
+}
+
+// Whether the host is written: where it is asked for and there is one.
+fn is_shown(states: bool, built: bool) -> bool
+    ensures { λ r. ⌜ r ≡ states && built ⌝ }
+{
+    if states { built } else { false }
+}
+
+/// Takes as many records as there are and as there is room for: 63 bytes for each, or 26,000 where
+/// the states are asked for.
+pub fn replay(script: Script, bytes: &[u8], out: &mut [u8], states: bool) -> Taken
+    ensures { λ r. ⌜ r .records ≡ taken states (now (bytes .entry)) (now (out .entry)) ⌝ }
+    ensures { λ r. ⌜ r .script ≡ after script (now (bytes .entry)) (r .records) ⌝ }
+    ensures { λ r. ⌜ Placed (now (out .entry)) 0 (Rattle.script.specs.Script.text states script (now (bytes .entry)) (r .records)) (now (out .exit)) (r .written) ⌝ }
+    ensures { λ r. ⌜ r .written ≤ length (now (out .exit)) ⌝ }
+{
+    let n = least(records_in(bytes.len()), out.len() / room_of(states));
+    let mut number = script.number;
+    let mut built = script.built;
+    let mut h = script.host;
+    let mut written: usize = 0;
+    let mut i: usize = 0;
+    while i < n {
+        let from = i * 20;
+        let plan = records::plan_of(built, &bytes[from..]);
+        let told = carried(h, plan);
+        let answer = told.answer;
+        h = told.host;
+        built = built_after(built, plan);
+        number = std::num::wrapping_add_u64(number, 1);
+        written = put_answer(out, written, number, answer, told.count);
+        if is_shown(states, built) {
+            written = put_host(out, written, h);
+        }
+        i += 1;
+    }
+    Taken {
+        script: Script {
+            number,
+            built,
+            host: h,
+        },
+        records: n,
+        written,
+    }
+}
