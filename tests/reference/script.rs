@@ -1,0 +1,175 @@
+//! Records, and upstream's host behind them. Only the answers 7 and 9 are added here; all else is upstream's.
+use crate::policy::Scheduler;
+use crate::sched::{SchedError, System};
+use std::panic::{catch_unwind, resume_unwind, AssertUnwindSafe};
+
+pub const RECORD: usize = 20;
+pub const DONE: u8 = 0;
+pub const TOO_LARGE: u8 = 7;
+pub const BAD_SCRIPT: u8 = 9;
+pub const SIZES: [u64; 3] = [16, 8, 64];
+
+#[derive(Clone, Copy, Default)]
+pub struct Record {
+    pub kind: u16,
+    pub domain: u16,
+    pub vcpu: u32,
+    pub third: u32,
+    pub value: u64,
+}
+
+impl Record {
+    /// `None` for a record that was cut off.
+    pub fn read(bytes: &[u8]) -> Option<Record> {
+        let b: &[u8; RECORD] = bytes.try_into().ok()?;
+        Some(Record {
+            kind: u16::from_be_bytes([b[0], b[1]]),
+            domain: u16::from_be_bytes([b[2], b[3]]),
+            vcpu: u32::from_be_bytes([b[4], b[5], b[6], b[7]]),
+            third: u32::from_be_bytes([b[8], b[9], b[10], b[11]]),
+            value: u64::from_be_bytes([b[12], b[13], b[14], b[15], b[16], b[17], b[18], b[19]]),
+        })
+    }
+
+    pub fn bytes(&self) -> [u8; RECORD] {
+        let mut b = [0; RECORD];
+        b[0..2].copy_from_slice(&self.kind.to_be_bytes());
+        b[2..4].copy_from_slice(&self.domain.to_be_bytes());
+        b[4..8].copy_from_slice(&self.vcpu.to_be_bytes());
+        b[8..12].copy_from_slice(&self.third.to_be_bytes());
+        b[12..20].copy_from_slice(&self.value.to_be_bytes());
+        b
+    }
+
+    /// The same record with every field that its kind does not use replaced by that of `other`.
+    pub fn filled(self, other: Record) -> Record {
+        let (ids, third, value) = match self.kind {
+            0 | 2 => (true, true, true),
+            1 | 5 => (true, false, false),
+            3 | 4 | 6 | 7 => (true, false, true),
+            8 => (true, true, false),
+            9 | 10 => (false, false, true),
+            _ => (false, false, false),
+        };
+        Record {
+            kind: self.kind,
+            domain: if ids { self.domain } else { other.domain },
+            vcpu: if ids { self.vcpu } else { other.vcpu },
+            third: if third { self.third } else { other.third },
+            value: if value { self.value } else { other.value },
+        }
+    }
+}
+
+#[derive(Clone, Copy)]
+pub struct Told {
+    pub answer: u8,
+    pub moves: u32,
+}
+
+pub struct Host {
+    pub system: System,
+    pub policy: Scheduler,
+}
+
+/// A script under way: no host before its first successful build.
+#[derive(Default)]
+pub struct Replay {
+    pub host: Option<Host>,
+}
+
+impl Replay {
+    /// `None` where upstream's own sum of a service overflows. The host is then gone.
+    pub fn tell(&mut self, bytes: &[u8]) -> Option<Told> {
+        match Record::read(bytes) {
+            Some(r) if r.kind == 0 => Some(self.build(r)),
+            Some(r) if r.kind <= 10 => self.call(r),
+            _ => Some(told(BAD_SCRIPT)),
+        }
+    }
+
+    fn build(&mut self, r: Record) -> Told {
+        let shape = [u64::from(r.domain), u64::from(r.vcpu), u64::from(r.third)];
+        if shape.iter().zip(SIZES).any(|(n, size)| *n > size) {
+            return told(TOO_LARGE);
+        }
+        let [domains, vcpus, pcpus] = shape.map(|n| n as usize);
+        self.host =
+            Some(Host { system: System::new(domains, vcpus, pcpus), policy: Scheduler::new(domains, vcpus, r.value) });
+        told(DONE)
+    }
+
+    fn call(&mut self, r: Record) -> Option<Told> {
+        let Some(host) = self.host.as_mut() else { return Some(told(BAD_SCRIPT)) };
+        if r.kind == 9 {
+            let moves = advance(host, r.value);
+            if moves.is_none() {
+                self.host = None;
+            }
+            return moves.map(|moves| Told { answer: DONE, moves });
+        }
+        Some(told(host.call(r)))
+    }
+}
+
+impl Host {
+    fn call(&mut self, r: Record) -> u8 {
+        let s = &mut self.system;
+        match r.kind {
+            1 => number(s.admit(r.domain, r.vcpu)),
+            2 => number(s.run(r.domain, r.vcpu, r.third, r.value)),
+            3 => number(s.preempt(r.domain, r.vcpu, r.value)),
+            4 => number(s.block(r.domain, r.vcpu, r.value)),
+            5 => number(s.wake(r.domain, r.vcpu)),
+            6 => number(s.offline(r.domain, r.vcpu, r.value)),
+            7 => number(s.set_affinity(r.domain, r.vcpu, r.value)),
+            8 => {
+                self.policy.set_weight(r.domain, r.vcpu, r.third);
+                DONE
+            }
+            _ => {
+                self.policy.set_wake_boost(r.value != 0);
+                DONE
+            }
+        }
+    }
+}
+
+/// What every call but an advance is told: no moves.
+fn told(answer: u8) -> Told {
+    Told { answer, moves: 0 }
+}
+
+fn number(result: Result<(), SchedError>) -> u8 {
+    match result {
+        Ok(()) => DONE,
+        Err(SchedError::BadDomain) => 1,
+        Err(SchedError::BadVcpu) => 2,
+        Err(SchedError::BadPcpu) => 3,
+        Err(SchedError::WrongState) => 4,
+        Err(SchedError::PcpuBusy) => 5,
+        Err(SchedError::NotAffine) => 6,
+    }
+}
+
+const OVERFLOW: &str = "attempt to add with overflow";
+
+fn advance(host: &mut Host, now: u64) -> Option<u32> {
+    let Host { system, policy } = host;
+    match catch_unwind(AssertUnwindSafe(|| policy.advance(system, now))) {
+        Ok(moves) => Some(moves),
+        Err(cause) if cause.downcast_ref::<&str>() == Some(&OVERFLOW) => None,
+        Err(cause) => resume_unwind(cause),
+    }
+}
+
+/// An overflow is answered by `tell`, so it needs no message of its own.
+pub fn quiet_overflows() {
+    let loud = std::panic::take_hook();
+    std::panic::set_hook(Box::new(move |info| {
+        let upstream = info.location().is_some_and(|l| l.file().ends_with("policy.rs"));
+        if !upstream || info.payload().downcast_ref::<&str>() != Some(&OVERFLOW) {
+            loud(info);
+        }
+    }));
+}
