@@ -83,47 +83,28 @@ fn call_of(r: Record) -> MaybeCall
 {
     let dom = r.dom;
     let vcpu = r.vcpu;
-    let third = r.third;
-    let value = r.value;
+    // third is a pCPU or a weight, value a clock or a mask
+    let pcpu = r.third;
+    let weight = r.third;
+    let now = r.value;
+    let mask = r.value;
     let kind = r.kind;
     match kind {
         1 => MaybeCall::Some(Call::Admit { dom, vcpu }),
         2 => MaybeCall::Some(Call::Run {
             dom,
             vcpu,
-            pcpu: third,
-            now: value,
+            pcpu,
+            now,
         }),
-        3 => MaybeCall::Some(Call::Preempt {
-            dom,
-            vcpu,
-            now: value,
-        }),
-        4 => MaybeCall::Some(Call::Block {
-            dom,
-            vcpu,
-            now: value,
-        }),
+        3 => MaybeCall::Some(Call::Preempt { dom, vcpu, now }),
+        4 => MaybeCall::Some(Call::Block { dom, vcpu, now }),
         5 => MaybeCall::Some(Call::Wake { dom, vcpu }),
-        6 => MaybeCall::Some(Call::Offline {
-            dom,
-            vcpu,
-            now: value,
-        }),
-        7 => MaybeCall::Some(Call::SetAffinity {
-            dom,
-            vcpu,
-            mask: value,
-        }),
-        8 => MaybeCall::Some(Call::SetWeight {
-            dom,
-            vcpu,
-            weight: third,
-        }),
-        9 => MaybeCall::Some(Call::Advance { now: value }),
-        10 => MaybeCall::Some(Call::SetWakeBoost {
-            enabled: value != 0,
-        }),
+        6 => MaybeCall::Some(Call::Offline { dom, vcpu, now }),
+        7 => MaybeCall::Some(Call::SetAffinity { dom, vcpu, mask }),
+        8 => MaybeCall::Some(Call::SetWeight { dom, vcpu, weight }),
+        9 => MaybeCall::Some(Call::Advance { now }),
+        10 => MaybeCall::Some(Call::SetWakeBoost { enabled: now != 0 }),
         _ => MaybeCall::None,
     }
 }
