@@ -2,6 +2,10 @@
 use Prim.Native.Nat.{ℕ, _+_, _*_, _<_}
 use mathlib.Core.Bool.{cond}
 use lib.Dec.{ltb}
+use Rattle.system.specs.declared.VirtualCpu.{VirtualCpu}
+use Rattle.system.specs.declared.PhysicalCpu.{PhysicalCpu}
+use Rattle.system.specs.declared.Answer.{Answer}
+use Rattle.system.specs.declared.Answer.the-variants.{Done}
 use Rattle.system.specs.Reads.{slot}
 use Rattle.sched.specs.declared.Slot.{Slot}
 use Rattle.sched.specs.declared.Slot.the-variants.{BadDomain, BadVcpu, At}
@@ -17,3 +21,26 @@ abbrev pub Seated : Change → Type 0
 Seated (Refuse a) = Unit {0}
 Seated (Write v) = Unit {0}
 Seated (Move v p o) = p < 64
+
+-- the pCPU that a change is about; 0 where there is none
+abbrev pub pcpuOf : Change → ℕ
+pcpuOf (Refuse a) = 0
+pcpuOf (Write v) = 0
+pcpuOf (Move v p o) = p
+
+-- what stands at the vCPU's slot and at that pCPU after a change, by what stood there
+abbrev pub vcpuAfter : Change → VirtualCpu → VirtualCpu
+vcpuAfter (Refuse a) w = w
+vcpuAfter (Write v) w = v
+vcpuAfter (Move v p o) w = v
+
+abbrev pub pcpuAfter : Change → PhysicalCpu → PhysicalCpu
+pcpuAfter (Refuse a) c = c
+pcpuAfter (Write v) c = c
+pcpuAfter (Move v p o) c = record { occupant = o }
+
+-- what is told of a change
+abbrev pub answerOf : Change → Answer
+answerOf (Refuse a) = a
+answerOf (Write v) = Done
+answerOf (Move v p o) = Done

@@ -2,14 +2,15 @@
 //! system and hands it back with its answer; a refused call hands it back as it came.
 
 ghost use mathlib.Core.Path.{_≡_};
-ghost use Prim.Native.Nat.{_+_, _-_, _^_, _<_, min};
+ghost use Prim.Native.Nat.{_+_, _-_, _^_, min};
 ghost use Rattle.system.specs.Answers.{outcome};
 ghost use Rattle.system.specs.Reads.{isIdle};
 ghost use Rattle.sched.specs.Records.{elapsed, withState, withMask, dispatched, left};
 ghost use Rattle.sched.specs.Steps.{wrongState, admitted, preempted, blocked, woken, masked, offlined, ran};
-ghost use Rattle.sched.specs.Steps.{changed, applied, requested, admit, preempt, block, wake, setAffinity};
+ghost use Rattle.sched.specs.Steps.{changed, requested, admit, preempt, block, wake, setAffinity};
 ghost use Rattle.sched.specs.Steps.{refused, offline, run, offlineAll};
-ghost use Rattle.sched.specs.Slots.{slotOf, Seated};
+ghost use Rattle.verdict.specs.Violations.{invariantsHold};
+ghost use Rattle.sched.specs.Slots.{slotOf, pcpuOf, vcpuAfter, pcpuAfter, answerOf};
 use system::Answer;
 use system::DomId;
 use system::Occupant;
@@ -262,34 +263,62 @@ fn changed(request: Request, v: VirtualCpu, full: u64) -> Change
 
 // ---- on the system
 
-// A change of the vCPU at slot i.
-fn applied(mut s: System, i: usize, change: Change) -> Stepped
-    requires { ⌜ i < 128 ⌝ }
-    requires { ⌜ Seated change ⌝ }
-    ensures { λ r. ⌜ outcome r ≡ applied s i change ⌝ }
+// The pCPU that a change is about, as an index; 0 where there is none.
+fn pcpu_of(change: Change) -> usize
+    ensures { λ r. ⌜ r ≡ pcpuOf change ⌝ }
 {
     match change {
-        Change::Refuse(answer) => Stepped { answer, system: s },
-        Change::Write(v) => {
-            s.vcpus[i] = v;
-            Stepped {
-                answer: Answer::Done,
-                system: s,
-            }
-        }
+        Change::Refuse(_) => 0,
+        Change::Write(_) => 0,
+        Change::Move {
+            vcpu: _,
+            pcpu,
+            occupant: _,
+        } => pcpu as usize,
+    }
+}
+
+// What stands at the vCPU's slot after a change, where v stood.
+fn vcpu_after(change: Change, v: VirtualCpu) -> VirtualCpu
+    ensures { λ r. ⌜ r ≡ vcpuAfter change v ⌝ }
+{
+    match change {
+        Change::Refuse(_) => v,
+        Change::Write(w) => w,
         Change::Move {
             vcpu,
-            pcpu,
+            pcpu: _,
+            occupant: _,
+        } => vcpu,
+    }
+}
+
+// What stands at the change's pCPU after it, where c stood.
+fn pcpu_after(change: Change, c: PhysicalCpu) -> PhysicalCpu
+    ensures { λ r. ⌜ r ≡ pcpuAfter change c ⌝ }
+{
+    match change {
+        Change::Refuse(_) => c,
+        Change::Write(_) => c,
+        Change::Move {
+            vcpu: _,
+            pcpu: _,
             occupant,
-        } => {
-            let p = pcpu as usize;
-            s.vcpus[i] = vcpu;
-            s.pcpus[p] = PhysicalCpu { occupant };
-            Stepped {
-                answer: Answer::Done,
-                system: s,
-            }
-        }
+        } => PhysicalCpu { occupant },
+    }
+}
+
+fn answer_of(change: Change) -> Answer
+    ensures { λ r. ⌜ r ≡ answerOf change ⌝ }
+{
+    match change {
+        Change::Refuse(answer) => answer,
+        Change::Write(_) => Answer::Done,
+        Change::Move {
+            vcpu: _,
+            pcpu: _,
+            occupant: _,
+        } => Answer::Done,
     }
 }
 
@@ -320,38 +349,44 @@ fn refused(answer: Answer, s: System) -> Stepped
     Stepped { answer, system: s }
 }
 
-// One request of one vCPU.
-fn requested(s: System, dom: DomId, vcpu: Vcpu, request: Request) -> Stepped
+// One request of one vCPU of a system that was tested. It stores in place: a system handed on is a copy.
+fn requested(sound: bool, mut s: System, dom: DomId, vcpu: Vcpu, request: Request) -> Stepped
+    requires { ⌜ sound ≡ invariantsHold s ⌝ }
     ensures { λ r. ⌜ outcome r ≡ requested s dom vcpu request ⌝ }
 {
-    let sound = verdict::invariants_hold(s);
     if !sound {
         return refused(Answer::Unsound, s);
     }
     let slot = slot_of(s.domain_count, s.vcpus_per_domain, dom, vcpu);
-    match slot {
-        Slot::BadDomain => refused(Answer::BadDomain, s),
-        Slot::BadVcpu => refused(Answer::BadVcpu, s),
-        Slot::At(i) => {
-            let v = s.vcpus[i];
-            let change = changed(request, v, masks::full_mask(s.pcpu_count));
-            applied(s, i, change)
-        }
-    }
+    let i = match slot {
+        Slot::BadDomain => return refused(Answer::BadDomain, s),
+        Slot::BadVcpu => return refused(Answer::BadVcpu, s),
+        Slot::At(i) => i,
+    };
+    let v = s.vcpus[i];
+    let change = changed(request, v, masks::full_mask(s.pcpu_count));
+    let q = pcpu_of(change);
+    let c = s.pcpus[q];
+    s.vcpus[i] = vcpu_after(change, v);
+    s.pcpus[q] = pcpu_after(change, c);
+    let answer = answer_of(change);
+    Stepped { answer, system: s }
 }
 
 /// Offline to Runnable.
 pub fn admit(s: System, dom: DomId, vcpu: Vcpu) -> Stepped
     ensures { λ r. ⌜ outcome r ≡ admit s dom vcpu ⌝ }
 {
-    requested(s, dom, vcpu, Request::Admit)
+    let sound = verdict::invariants_hold(s);
+    requested(sound, s, dom, vcpu, Request::Admit)
 }
 
-/// Runnable to Running, on an idle pCPU that the mask admits.
-pub fn run(s: System, dom: DomId, vcpu: Vcpu, pcpu: Pcpu, now: Ticks) -> Stepped
+// A dispatch on a system that was tested. It stores in place, as a request does.
+fn run_tested(holds: bool, mut s: System, dom: DomId, vcpu: Vcpu, pcpu: Pcpu, now: Ticks) -> Stepped
+    requires { ⌜ holds ≡ invariantsHold s ⌝ }
     ensures { λ r. ⌜ outcome r ≡ run s dom vcpu pcpu now ⌝ }
 {
-    if !verdict::invariants_hold(s) {
+    if !holds {
         return refused(Answer::Unsound, s);
     }
     let p = pcpu as usize;
@@ -360,37 +395,52 @@ pub fn run(s: System, dom: DomId, vcpu: Vcpu, pcpu: Pcpu, now: Ticks) -> Stepped
         return refused(Answer::BadPcpu, s);
     }
     let slot = slot_of(s.domain_count, s.vcpus_per_domain, dom, vcpu);
-    match slot {
-        Slot::BadDomain => refused(Answer::BadDomain, s),
-        Slot::BadVcpu => refused(Answer::BadVcpu, s),
-        Slot::At(i) => {
-            let v = s.vcpus[i];
-            let held = s.pcpus[p];
-            let change = ran(v, dom, vcpu, pcpu, held, now);
-            applied(s, i, change)
-        }
-    }
+    let i = match slot {
+        Slot::BadDomain => return refused(Answer::BadDomain, s),
+        Slot::BadVcpu => return refused(Answer::BadVcpu, s),
+        Slot::At(i) => i,
+    };
+    let v = s.vcpus[i];
+    let held = s.pcpus[p];
+    let change = ran(v, dom, vcpu, pcpu, held, now);
+    let q = pcpu_of(change);
+    let c = s.pcpus[q];
+    s.vcpus[i] = vcpu_after(change, v);
+    s.pcpus[q] = pcpu_after(change, c);
+    let answer = answer_of(change);
+    Stepped { answer, system: s }
+}
+
+/// Runnable to Running, on an idle pCPU that the mask admits.
+pub fn run(s: System, dom: DomId, vcpu: Vcpu, pcpu: Pcpu, now: Ticks) -> Stepped
+    ensures { λ r. ⌜ outcome r ≡ run s dom vcpu pcpu now ⌝ }
+{
+    let holds = verdict::invariants_hold(s);
+    run_tested(holds, s, dom, vcpu, pcpu, now)
 }
 
 /// Running to Runnable.
 pub fn preempt(s: System, dom: DomId, vcpu: Vcpu, now: Ticks) -> Stepped
     ensures { λ r. ⌜ outcome r ≡ preempt s dom vcpu now ⌝ }
 {
-    requested(s, dom, vcpu, Request::Preempt { now })
+    let sound = verdict::invariants_hold(s);
+    requested(sound, s, dom, vcpu, Request::Preempt { now })
 }
 
 /// Runnable or Running to Blocked.
 pub fn block(s: System, dom: DomId, vcpu: Vcpu, now: Ticks) -> Stepped
     ensures { λ r. ⌜ outcome r ≡ block s dom vcpu now ⌝ }
 {
-    requested(s, dom, vcpu, Request::Block { now })
+    let sound = verdict::invariants_hold(s);
+    requested(sound, s, dom, vcpu, Request::Block { now })
 }
 
 /// Blocked to Runnable.
 pub fn wake(s: System, dom: DomId, vcpu: Vcpu) -> Stepped
     ensures { λ r. ⌜ outcome r ≡ wake s dom vcpu ⌝ }
 {
-    requested(s, dom, vcpu, Request::Wake)
+    let sound = verdict::invariants_hold(s);
+    requested(sound, s, dom, vcpu, Request::Wake)
 }
 
 /// A new mask, clipped to the pCPUs of the system.
@@ -398,14 +448,16 @@ pub fn set_affinity(s: System, dom: DomId, vcpu: Vcpu, affinity: u64) -> Stepped
     ensures { λ r. ⌜ outcome r ≡ setAffinity s dom vcpu affinity ⌝ }
 {
     let mask = masks::clip(affinity, s.pcpu_count);
-    requested(s, dom, vcpu, Request::SetAffinity { mask })
+    let sound = verdict::invariants_hold(s);
+    requested(sound, s, dom, vcpu, Request::SetAffinity { mask })
 }
 
 /// Any live state to Offline.
 pub fn offline(s: System, dom: DomId, vcpu: Vcpu, now: Ticks) -> Stepped
     ensures { λ r. ⌜ outcome r ≡ offline s dom vcpu now ⌝ }
 {
-    requested(s, dom, vcpu, Request::Offline { now })
+    let sound = verdict::invariants_hold(s);
+    requested(sound, s, dom, vcpu, Request::Offline { now })
 }
 
 /// Every vCPU of a domain to Offline; those that are Offline stay as they are.

@@ -1,6 +1,7 @@
 -- What can be read of a system, damaged or not.
 use Prim.Native.Nat.{ℕ, zero, suc, _+_, _*_, min}
 use mathlib.Core.Bool.{Bool, true, false, cond, not, _&&_}
+use mathlib.Core.List.{List}
 use lib.Dec.{ltb}
 use lib.ListN.{getD}
 use Rattle.masks.specs.Masks.{permits, fullMask}
@@ -9,6 +10,7 @@ use Rattle.system.specs.declared.RunState.the-variants.{Offline, Runnabl
 use Rattle.system.specs.declared.VirtualCpu.{VirtualCpu}
 use Rattle.system.specs.declared.Occupant.{Occupant}
 use Rattle.system.specs.declared.Occupant.the-variants.{Idle, Vcpu}
+use Rattle.system.specs.declared.PhysicalCpu.{PhysicalCpu}
 use Rattle.system.specs.declared.System.{System}
 use Rattle.system.specs.declared.MaybeVcpu.{MaybeVcpu}
 use Rattle.system.specs.declared.MaybeState.{MaybeState}
@@ -109,6 +111,10 @@ fullAffinity s = fullMask (s .«pcpu_count»)
 unfoldable pub count : (ℕ → Bool) → ℕ → ℕ
 count f zero = 0
 count f (suc n) = count f n + cond (f n) 1 0
+
+-- how many of the first n pCPUs of a table somebody holds
+abbrev pub busyIn : List PhysicalCpu → ℕ → ℕ
+busyIn held n = count (λ p. not (isIdle ((getD held p idle) .occupant))) (min n 64)
 
 abbrev pub busyPcpus : System → ℕ
 busyPcpus s = count (λ p. not (isIdle (occupantAt s p))) (pcpus s)

@@ -8,7 +8,7 @@ ghost use Rattle.system.specs.Answers.{outcome};
 ghost use Rattle.system.specs.Shape.{fits, fresh, built};
 ghost use Rattle.system.specs.Reads.{domains, pcpus, vcpuCount, isIdle, vcpuOf, stateOf, runs, isRunning};
 ghost use Rattle.system.specs.Reads.{runtimeOf, since, onCpuSince, occupantOf, affinityOf, affinityPermits};
-ghost use Rattle.system.specs.Reads.{fullAffinity, busyPcpus};
+ghost use Rattle.system.specs.Reads.{fullAffinity, busyIn, busyPcpus};
 
 /// A domain id: an index into the system's domains.
 pub type DomId = u16;
@@ -77,9 +77,10 @@ pub enum Answer {
 }
 
 /// An answer, and the system that the call leaves.
+// The system stands first: behind the answer, and what pads that, it is copied once more.
 pub struct Stepped {
-    pub answer: Answer,
     pub system: System,
+    pub answer: Answer,
 }
 
 pub enum MaybeVcpu {
@@ -304,16 +305,24 @@ impl System {
     pub fn busy_pcpus(self) -> usize
         ensures { λ r. ⌜ r ≡ busyPcpus self ⌝ }
     {
-        let n = least(self.pcpu_count, MAX_PCPUS);
-        let mut busy: usize = 0;
-        let mut p: usize = 0;
-        while p < n {
-            let c = self.pcpus[p];
-            busy += one_if_busy(c);
-            p += 1;
-        }
-        busy
+        let held = self.pcpus;
+        busy_in(held, self.pcpu_count)
     }
+}
+
+/// The number of the first pCPUs of a table that somebody holds.
+pub fn busy_in(held: [PhysicalCpu; 64], pcpu_count: usize) -> usize
+    ensures { λ r. ⌜ r ≡ busyIn held «pcpu_count» ⌝ }
+{
+    let n = least(pcpu_count, MAX_PCPUS);
+    let mut busy: usize = 0;
+    let mut p: usize = 0;
+    while p < n {
+        let c = held[p];
+        busy += one_if_busy(c);
+        p += 1;
+    }
+    busy
 }
 
 fn running(found: MaybeState) -> bool

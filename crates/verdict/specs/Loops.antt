@@ -1,9 +1,13 @@
 -- What the crate's own loops say of one vCPU and one pCPU, each read with the record that the other table has for it.
 use Prim.Native.Nat.{ℕ, _+_, _*_, _%_}
+use mathlib.Core.Bool.{Bool, false}
+use lib.Dec.{ltb}
 use Rattle.system.specs.declared.RunState.{RunState}
 use Rattle.system.specs.declared.RunState.the-variants.{Offline, Runnable, Running, Blocked}
 use Rattle.system.specs.declared.Occupant.{Occupant}
 use Rattle.system.specs.declared.Occupant.the-variants.{Idle, Vcpu}
+use Rattle.system.specs.declared.System.{System}
+use Rattle.system.specs.Reads.{vcpus, vcpuAt}
 use Rattle.verdict.specs.declared.Violation.{Violation}
 use Rattle.verdict.specs.declared.Violation.the-variants.{None}
 use Rattle.verdict.specs.Violations.{runningViolation, heldViolation}
@@ -29,3 +33,14 @@ holderSlot (Vcpu d v) = d % 16 * 8 + v % 8
 abbrev pub seatHolderViolation : ℕ → ℕ → RunState → ℕ → Occupant → Violation
 seatHolderViolation n k st p Idle = None
 seatHolderViolation n k st p (Vcpu d v) = heldViolation n k st p d v
+
+-- the state is Running, and vCPU v is one of k
+abbrev pub runsWithin : ℕ → ℕ → RunState → Bool
+runsWithin k v Offline = false
+runsWithin k v Runnable = false
+runsWithin k v (Running p) = ltb v k
+runsWithin k v Blocked = false
+
+-- the vCPU of slot i exists and is Running
+unfoldable pub runningAt : System → ℕ → Bool
+runningAt s i = runsWithin (vcpus s) (i % 8) ((vcpuAt s i) .state)

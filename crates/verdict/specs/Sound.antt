@@ -90,9 +90,23 @@ fits-sizes d v p e =
     let b = both _ _ (a .1) in
     (leb-true d 16 (a .0), leb-true v 8 (b .0), leb-true p 64 (b .1))
 
+-- where no vCPU is in violation, each that is Running may stand where it does
+pub clean-runs : (s : System) → earliest (slotViolation s) (domains s * 8) ≡ None
+    → (i p : ℕ) → Present s i → (vcpuAt s i) .state ≡ Running p → OnPcpu s i p
+unfolding slotViolation
+clean-runs s clean i p h r =
+    let f = earliest-all (slotViolation s) (domains s * 8) clean i (omega (arith, h .domain)) in
+    let g = rw (lt-ltb (i % 8) (vcpus s) (h .vcpu)) at f in
+    let k = subst (λ (st : RunState). vcpuViolation s (i / 8) (i % 8) ((vcpuAt s i) .affinity) st ≡ None) r g in
+    let a = passed _ _ (RunningGhostPcpu (i / 8) (i % 8)) refl k in
+    let b = passed _ _ (OccupancyBroken (i / 8) (i % 8)) refl (a .1) in
+    let c = passed _ _ (RunningOffAffinity (i / 8) (i % 8)) refl (b .1) in
+    record { exists = ltb-true _ _ (a .0); back = named _ _ _ (b .0); admits = c .0 }
+
 pub none-sound : (s : System) → firstViolation s ≡ None → Sound s
-unfolding firstViolation slotViolation pcpuViolation
-none-sound s e = record { domains = size .0; vcpus = size .1; pcpus = size .2; runs = runs′; held = held′ }
+unfolding firstViolation pcpuViolation
+none-sound s e =
+    record { domains = size .0; vcpus = size .1; pcpus = size .2; runs = clean-runs s (clean .0); held = held′ }
   where
     test : (fits (s .«domain_count») (s .«vcpus_per_domain») (s .«pcpu_count») ≡ true)
         × (orElse (earliest (slotViolation s) (domains s * 8)) (earliest (pcpuViolation s) (pcpus s)) ≡ None)
@@ -104,16 +118,6 @@ none-sound s e = record { domains = size .0; vcpus = size .1; pcpus = size .2; r
     clean : (earliest (slotViolation s) (domains s * 8) ≡ None) × (earliest (pcpuViolation s) (pcpus s) ≡ None)
     clean = or-none _ _ (test .1)
 
-    runs′ : (i p : ℕ) → Present s i → (vcpuAt s i) .state ≡ Running p → OnPcpu s i p
-    runs′ i p h r =
-        let f = earliest-all (slotViolation s) (domains s * 8) (clean .0) i (omega (arith, h .domain)) in
-        let g = rw (lt-ltb (i % 8) (vcpus s) (h .vcpu)) at f in
-        let k = subst (λ (st : RunState). vcpuViolation s (i / 8) (i % 8) ((vcpuAt s i) .affinity) st ≡ None) r g in
-        let a = passed _ _ (RunningGhostPcpu (i / 8) (i % 8)) refl k in
-        let b = passed _ _ (OccupancyBroken (i / 8) (i % 8)) refl (a .1) in
-        let c = passed _ _ (RunningOffAffinity (i / 8) (i % 8)) refl (b .1) in
-        record { exists = ltb-true _ _ (a .0); back = named _ _ _ (b .0); admits = c .0 }
-
     held′ : (p d v : ℕ) → p < pcpus s → occupantAt s p ≡ Vcpu d v → Holds s p d v
     held′ p d v l o =
         let f = earliest-all (pcpuViolation s) (pcpus s) (clean .1) p l in
@@ -122,6 +126,12 @@ none-sound s e = record { domains = size .0; vcpus = size .1; pcpus = size .2; r
         let b = passed _ _ (OccupantNotRunning p) refl (a .1) in
         let c = both _ _ (a .0) in
         record { domain = ltb-true _ _ (c .0); vcpu = ltb-true _ _ (c .1); on = running p _ (b .0) }
+
+-- a pCPU whose holder may hold it is in no violation
+pub holds-none : (s : System) (p d v : ℕ) → Holds s p d v → holderViolation s p (Vcpu d v) ≡ None
+holds-none s p d v h =
+    let r : runsOn p ((vcpuAt s (slot d v)) .state) ≡ true = ap (runsOn p) (h .on) ∙ eq-eqb p p refl in
+    rw (lt-ltb d (domains s) (h .domain), lt-ltb v (vcpus s) (h .vcpu), r)
 
 pub sound-none : (s : System) → Sound s → firstViolation s ≡ None
 unfolding firstViolation slotViolation pcpuViolation
@@ -150,10 +160,7 @@ sound-none s S =
 
     holder-ok : (p : ℕ) → p < pcpus s → (o : Occupant) → occupantAt s p ≡ o → holderViolation s p o ≡ None
     holder-ok p l Idle e = refl
-    holder-ok p l (Vcpu d v) e =
-        let h = S .held p d v l e in
-        let r : runsOn p ((vcpuAt s (slot d v)) .state) ≡ true = ap (runsOn p) (h .on) ∙ eq-eqb p p refl in
-        rw (lt-ltb d (domains s) (h .domain), lt-ltb v (vcpus s) (h .vcpu), r)
+    holder-ok p l (Vcpu d v) e = holds-none s p d v (S .held p d v l e)
 
     pcpu-ok : (p : ℕ) → p < pcpus s → pcpuViolation s p ≡ None
     pcpu-ok p l = holder-ok p l (occupantAt s p) refl

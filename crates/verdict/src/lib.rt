@@ -7,7 +7,7 @@ ghost use Rattle.system.specs.Shape.{fits};
 ghost use Rattle.system.specs.Reads.{domains, pcpus};
 ghost use Rattle.verdict.specs.Violations.{names, runsOn, isNone, earliest, slotViolation, pcpuViolation};
 ghost use Rattle.verdict.specs.Violations.{orElse, firstViolation, invariantsHold};
-ghost use Rattle.verdict.specs.Loops.{seat, seatedViolation, holderSlot, seatHolderViolation};
+ghost use Rattle.verdict.specs.Loops.{seat, seatedViolation, holderSlot, seatHolderViolation, runsWithin};
 use system::Occupant;
 use system::PhysicalCpu;
 use system::RunState;
@@ -216,9 +216,45 @@ pub fn first_violation(s: System) -> Violation
     or_else(of_vcpus, of_pcpus)
 }
 
+// Whether a vCPU is Running and one of its domain's vCPUs.
+fn runs_within(v: VirtualCpu, vcpu: usize, vcpus_per_domain: usize) -> bool
+    ensures { λ r. ⌜ r ≡ runsWithin «vcpus_per_domain» vcpu (v .state) ⌝ }
+{
+    let state = v.state;
+    match state {
+        RunState::Offline => false,
+        RunState::Runnable => false,
+        RunState::Running { pcpu: _ } => vcpu < vcpus_per_domain,
+        RunState::Blocked => false,
+    }
+}
+
 /// Whether a system has no violation.
+// Where each Running vCPU's pCPU names it back and as many pCPUs are held as vCPUs run, each holder runs.
 pub fn invariants_hold(s: System) -> bool
     ensures { λ r. ⌜ r ≡ invariantsHold s ⌝ }
 {
-    is_none(first_violation(s))
+    let d = s.domain_count;
+    let k = s.vcpus_per_domain;
+    let m = s.pcpu_count;
+    if !system::within_sizes(d, k, m) {
+        return false;
+    }
+    let n = d * 8;
+    let mut running: usize = 0;
+    let mut i: usize = 0;
+    while i < n {
+        let v = s.vcpus[i];
+        if runs_within(v, i % 8, k) {
+            let q = seat_of(v);
+            let held = s.pcpus[q];
+            if !is_none(vcpu_violation(v, held, m, i / 8, i % 8)) {
+                return false;
+            }
+            running += 1;
+        }
+        i += 1;
+    }
+    let held = s.pcpus;
+    running == system::busy_in(held, m)
 }

@@ -1,5 +1,6 @@
 -- `bench_calls::rounds_of` is safe and ends. Assumes nothing.
 use Prim.Native.Nat.{_≤_, _-_}
+use native.Mathlib.Omega.{arith}
 use borrow.Author.Needs.{needs}
 use Rattle.bench_calls.proofs.rounds_of.Statement.{statement}
 use Rattle.bench_calls.proofs.rounds_of.Tie as tie
@@ -9,6 +10,12 @@ Inv-loop s₀ rounds done₀ k₀ s done k = k ≤ rounds
 
 abbrev μ-loop : tie.MeasureT-loop
 μ-loop s₀ rounds done₀ k₀ s done k = rounds - k
+
+-- what bounds k stands further back than a search looks
+add-k : tie.Need-add-k Inv-loop μ-loop
+add-k c =
+    let turn = c .before .before .before .before .before .before .before .before .before .before in
+    omega (arith, turn .loop-test .taken, turn .before .before .good .1)
 
 pub rounds-of-spec : {M : Type 1} → statement M
 rounds-of-spec =
@@ -23,7 +30,7 @@ rounds-of-spec =
     (λ c κs. search needs)
     (λ c κs. search needs)
     (λ c κs. search needs)
-    (λ c. search needs)
+    add-k
     (λ c. search needs)
     (λ c. search needs)
     (λ c. search needs))
