@@ -103,7 +103,7 @@ module _ (d v p e u q : ℕ) (hd : d ≤ 16) (hv : v ≤ 8) (hp : p ≤ 64) wher
               offsets = λ i. ap (λ (a : Account). value (a .offset)) (policy-at i);
               weights = λ i. omega (arith, ap (λ (a : Account). max (a .weight) 1) (policy-at i));
             };
-        ledger = record { accounts = length-replicate 128 plain };
+        tabled = record { accounts = length-replicate 128 plain };
         words = λ j. omega (arith, time-zero j);
         unseen = λ i. ap (λ (a : Account). a .«was_schedulable») (policy-at i);
       }

@@ -14,7 +14,7 @@ use Rattle.policy.specs.declared.Account.{Account}
 use Rattle.policy.specs.declared.Scheduler.{Scheduler}
 use Rattle.policy.specs.Accounts.{wasSchedulable, accountOf, setWeight, setWakeBoost, unboosted}
 use Rattle.policy.specs.Standing.{weightAt}
-use Rattle.policy.specs.AccountLaws.{Ledger, Weighed, set-weighed, set-weight-ledger, cleared, cleared-ledger}
+use Rattle.policy.specs.AccountLaws.{Tabled, Weighed, set-weighed, set-weight-tabled, cleared, cleared-tabled}
 use Rattle.advance.specs.LagMoves.{Plain}
 use Rattle.host.specs.declared.Host.{Host}
 use Rattle.host.specs.declared.Call.{Call}
@@ -51,7 +51,7 @@ refused-same {h = h} (Call.Advance now) K n = absurd (n (advance-rests-here now 
 pub record Prepared (h : Host) : Type 0 where
   pub young : Young (h .system)
   pub plain : Plain (h .scheduler)
-  pub ledger : Ledger (h .scheduler)
+  pub tabled : Tabled (h .scheduler)
   pub words : Words (h .system)
   pub unseen : (i : ℕ) → wasSchedulable (h .scheduler) (i / 8) (i % 8) ≡ false
 
@@ -60,7 +60,7 @@ Next h c = (step h c) .host
 
 -- a call of the mechanism touches no account
 by-mechanism : {h : Host} {s : System} → Prepared h → Keeps (h .system) s → Young s → Prepared (record { system = s; scheduler = h .scheduler })
-by-mechanism P m y = record { young = y; plain = P .plain; ledger = P .ledger; words = m .times (P .words) .word; unseen = P .unseen }
+by-mechanism P m y = record { young = y; plain = P .plain; tabled = P .tabled; words = m .times (P .words) .word; unseen = P .unseen }
 
 prepare : {k : Shape} {b : Book} {h : Host} {c : Call} → Kept k b h → Prepared h → Fits c → Prepares c → Prepared (Next h c)
 unfolding step setWakeBoost value
@@ -83,13 +83,13 @@ prepare {h = h} K P f (lists.Prepares.weigh d v w) =
     record {
       young = P .young;
       plain = record { offsets = λ i. look i .offset ∙ P .plain .offsets i; weights = λ i. weight i (look i .weight) };
-      ledger = set-weight-ledger (h .scheduler) (P .ledger) d v w;
+      tabled = set-weight-tabled (h .scheduler) (P .tabled) d v w;
       words = P .words;
       unseen = λ i. look i .snapshot ∙ P .unseen i;
     }
   where
     look : (i : ℕ) → Weighed (h .scheduler) w i (setWeight (h .scheduler) d v w)
-    look i = set-weighed (h .scheduler) (P .ledger) d v w i
+    look i = set-weighed (h .scheduler) (P .tabled) d v w i
 
     weight : (i : ℕ) → (weightAt (setWeight (h .scheduler) d v w) i ≡ max (max w 1) 1) ⊎ (weightAt (setWeight (h .scheduler) d v w) i ≡ weightAt (h .scheduler) i)
         → weightAt (setWeight (h .scheduler) d v w) i < 2 ^ 32
@@ -103,7 +103,7 @@ prepare {h = h} K P f (lists.Prepares.boost on) =
             offsets = λ i. ap (λ (a : Account). value (a .offset)) (look i);
             weights = λ i. omega (arith, ap (λ (a : Account). max (a .weight) 1) (look i), P .plain .weights i);
           };
-      ledger = cleared-ledger (h .scheduler) (P .ledger) on;
+      tabled = cleared-tabled (h .scheduler) (P .tabled) on;
       words = P .words;
       unseen = λ i. ap (λ (a : Account). a .«was_schedulable») (look i) ∙ P .unseen i;
     }
@@ -121,7 +121,7 @@ start {h = h} g now fit K P =
     let A = advance-rests-here now K in
     let T = K .in-step in
     subst (λ (π : Scheduler). Pooling g now ((Next h (Call.Advance now)) .system) π) (sym (A .policy))
-    (first-advance now g fit (K .slice) (T .tables) (T .sound) (P .words) (P .ledger) (P .plain) (P .unseen)
+    (first-advance now g fit (K .slice) (T .tables) (T .sound) (P .words) (P .tabled) (P .plain) (P .unseen)
     (young-lag _ (T .tables) (T .sound) (P .young) (weightAt (h .scheduler)) (slack (h .scheduler) g) now) (A .trace) (A .rests))
 
 go-on : {k : Shape} {b : Book} {h : Host} (g t now : ℕ) → now < 2 ^ 64 → t ≤ now → now ≤ t + g → Kept k b h → Bounded g t h

@@ -23,7 +23,7 @@ use Rattle.policy.specs.Accounts.{covers, accountOf, wasSchedulable, setWeight,
 use Rattle.policy.specs.Standing.{slots, present, weightAt}
 use Rattle.advance.specs.Choices.{choice}
 use Rattle.policy.specs.Accounting.{schedulable, pooled, floor, accounted}
-use Rattle.policy.specs.AccountLaws.{Ledger, renew-same, accounted-weight, accounted-snapshot, accounted-offset, floor-stayed, Weighed, set-weighed, set-weight-ledger, cleared, cleared-ledger}
+use Rattle.policy.specs.AccountLaws.{Tabled, renew-same, accounted-weight, accounted-snapshot, accounted-offset, floor-stayed, Weighed, set-weighed, set-weight-tabled, cleared, cleared-tabled}
 use Rattle.advance.specs.ChoiceLaws.{is-present, present-is}
 use Rattle.advance.specs.Settles.{Trace, trace-keeps}
 use Rattle.advance.specs.Lag.{Pool, Lag}
@@ -42,7 +42,7 @@ slack π g = π .quantum + g - 1
 pub record Pooling (g t : ℕ) (s : System) (π : Scheduler) : Type 0 where
   pub bounded : (r : ℕ) → t ≤ r → r ≤ t + g → Lag (weightAt π) (slack π g) s r
   pub plain : Plain π
-  pub ledger : Ledger π
+  pub tabled : Tabled π
   pub words : Words s
   -- nobody in the pool is new to it
   pub seen : (i : ℕ) → Present s i → pooled s i ≡ true → covers π (i / 8) (i % 8) ≡ true → wasSchedulable π (i / 8) (i % 8) ≡ true
@@ -54,7 +54,7 @@ same-weights {w} {w′} {lim} {now} {s} e L = subst (λ (u : ℕ → ℕ). Lag u
 -- ---- an advance
 
 module _ (s : System) (π : Scheduler) (now g : ℕ) (fit : now < 2 ^ 64) (slice : 1 ≤ π .quantum) (tb : Tables s) (S : Sound s) (words : Words s)
-    (L : Ledger π) where
+    (L : Tabled π) where
   abbrev ρ : Scheduler
   ρ = accounted s π now
 
@@ -66,9 +66,9 @@ module _ (s : System) (π : Scheduler) (now g : ℕ) (fit : now < 2 ^ 64) (slice
   unfolding accounted
   same-shape d v = let e = renew-same s π now (slots s) in rw (e .domains, e .vcpus)
 
-  ledger′ : Ledger ρ
+  tabled′ : Tabled ρ
   unfolding accounted
-  ledger′ = record { accounts = renew-same s π now (slots s) .ledger ∙ L .accounts }
+  tabled′ = record { accounts = renew-same s π now (slots s) .tabled ∙ L .accounts }
 
   -- an advance that sets no offset, on a system where the lag is bounded at its clock
   settles-pooling : {t : System} {cs : List Choice} → Plain ρ → Lag (weightAt π) (slack π g) s now → Trace ρ now s cs t → choice t ρ now ≡ Rest → Pooling g now t ρ
@@ -79,7 +79,7 @@ module _ (s : System) (π : Scheduler) (now g : ℕ) (fit : now < 2 ^ 64) (slice
       record {
         bounded = λ r lo up. rest-lag ρ P (slack ρ g) t now g r fit (k .times words .word) (k .sound) there e (omega (arith, same-slice)) (omega (arith, same-slice)) lo up;
         plain = P;
-        ledger = ledger′;
+        tabled = tabled′;
         words = k .times words .word;
         seen = λ i h p c.
             let q = present-is (present-back (k .shape) h) in
@@ -105,7 +105,7 @@ no-floor s π now u = go (floor s π now) refl
     go (at f) e = absurd (false≢true (sym (u f) ∙ floor-stayed s π now f e .1))
 
 pub first-advance : {s t : System} {π : Scheduler} {cs : List Choice} (now g : ℕ) → now < 2 ^ 64 → 1 ≤ π .quantum → Tables s → Sound s → Words s
-    → Ledger π → Plain π → ((i : ℕ) → wasSchedulable π (i / 8) (i % 8) ≡ false) → Lag (weightAt π) (slack π g) s now
+    → Tabled π → Plain π → ((i : ℕ) → wasSchedulable π (i / 8) (i % 8) ≡ false) → Lag (weightAt π) (slack π g) s now
     → Trace (accounted s π now) now s cs t → choice t (accounted s π now) now ≡ Rest → Pooling g now t (accounted s π now)
 first-advance {s} {t} {π} now g fit q tb S w L P u lag tr e =
     settles-pooling s π now g fit q tb S w L (unlifted s π now g fit q tb S w L P (λ i. inl (no-floor s π now u))) lag tr e
@@ -114,8 +114,8 @@ pub next-advance : {s t : System} {π : Scheduler} {cs : List Choice} (t₀ now 
     → Pooling g t₀ s π → t₀ ≤ now → now ≤ t₀ + g → Trace (accounted s π now) now s cs t → choice t (accounted s π now) now ≡ Rest
     → Pooling g now t (accounted s π now)
 next-advance {s} {t} {π} t₀ now g fit q tb S p lo up tr e =
-    settles-pooling s π now g fit q tb S (p .words) (p .ledger)
-    (unlifted s π now g fit q tb S (p .words) (p .ledger) (p .plain)
+    settles-pooling s π now g fit q tb S (p .words) (p .tabled)
+    (unlifted s π now g fit q tb S (p .words) (p .tabled) (p .plain)
     (λ i. inr (λ l x c h. p .seen i (is-present s i l x) h c)))
     (p .bounded now lo up) tr e
 
@@ -126,7 +126,7 @@ departure {s} {s′} {π} x k p =
     record {
       bounded = λ r lo up. shrinks-lag x (p .bounded r lo up);
       plain = p .plain;
-      ledger = p .ledger;
+      tabled = p .tabled;
       words = k .times (p .words) .word;
       seen = λ i h q c.
           let e = x .same i h q in
@@ -139,7 +139,7 @@ boosted {s} {π} on p =
     record {
       bounded = λ r lo up. same-weights (λ i. sym (weight i)) (p .bounded r lo up);
       plain = record { offsets = λ i. ap (λ (a : Account). value (a .offset)) (look i); weights = λ i. omega (arith, weight i, p .plain .weights i) };
-      ledger = cleared-ledger π (p .ledger) on;
+      tabled = cleared-tabled π (p .tabled) on;
       words = p .words;
       seen = λ i h q c. ap (λ (a : Account). a .«was_schedulable») (look i) ∙ p .seen i h q c;
     }

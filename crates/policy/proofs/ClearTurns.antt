@@ -8,7 +8,7 @@ use lib.ListN.{length, getD, set}
 use Rattle.policy.specs.declared.Account.{Account}
 use Rattle.policy.specs.declared.Scheduler.{Scheduler}
 use Rattle.policy.specs.Accounts.{withAccounts, unboosted, setWakeBoost}
-use Rattle.policy.specs.AccountLaws.{Ledger}
+use Rattle.policy.specs.AccountLaws.{Tabled}
 
 -- the first i offsets cleared
 unfoldable pub clearFirst : List Account → ℕ → List Account
@@ -40,7 +40,7 @@ clearedTo π i = withAccounts π (clearFirst (π .accounts) i)
 pub begun : (π : Scheduler) → π ≡ clearedTo π 0
 begun π = ap (withAccounts π) (sym (clear-none (π .accounts)))
 
-module _ (π : Scheduler) (L : Ledger π) where
+module _ (π : Scheduler) (L : Tabled π) where
   pub turned : (ρ : Scheduler) (i : ℕ) (d : Account) → i < 128 → ρ ≡ clearedTo π i
       → withAccounts ρ (set (ρ .accounts) i (unboosted (getD (ρ .accounts) i d))) ≡ clearedTo π (suc i)
   turned ρ i d h e =

@@ -16,7 +16,7 @@ use Rattle.policy.specs.declared.Scheduler.{Scheduler}
 use Rattle.policy.specs.Accounts.{plain, covers, accountOf, withAccounts, putAccount}
 use Rattle.policy.specs.Standing.{present, weightAt, serviceAt}
 use Rattle.policy.specs.Accounting.{pooled, floor, lift, lifted, renewed, renewFirst}
-use Rattle.policy.specs.AccountLaws.{Ledger, same-covers, renew-same, kept-until}
+use Rattle.policy.specs.AccountLaws.{Tabled, same-covers, renew-same, kept-until}
 use Rattle.policy.specs.Loops.{Leads, none, one, liftedTo, renewedAt}
 use Rattle.policy.proofs.Ids.{vcpu-below, vcpu-beyond}
 use Rattle.policy.proofs.Stored.{zeros, looked}
@@ -72,16 +72,16 @@ module _ (s : System) (π : Scheduler) (now i : ℕ) where
       rw (same-covers (renew-same s π now i) (i / 8) (i % 8), p, c, x)
 
   -- until then it is as it was
-  kept : Ledger π → i < 128 → covers π (i / 8) (i % 8) ≡ true → getD ((renewFirst s π now i) .accounts) i zeros ≡ account
+  kept : Tabled π → i < 128 → covers π (i / 8) (i % 8) ≡ true → getD ((renewFirst s π now i) .accounts) i zeros ≡ account
   kept L h c =
       let ρ = renewFirst s π now i in
       let same = renew-same s π now i in
       let e = same-covers same (i / 8) (i % 8) ∙ c in
       sym (ap (λ (b : Bool). cond b (getD (ρ .accounts) i zeros) plain) e)
-      ∙ (looked ρ (record { accounts = same .ledger ∙ L .accounts }) i h ∙ kept-until s π L now i)
+      ∙ (looked ρ (record { accounts = same .tabled ∙ L .accounts }) i h ∙ kept-until s π L now i)
 
   -- what the code stores is the next policy
-  pub renews : Ledger π → i < 128 → (f : Standing) → Leads s π now (floor s π now) f → (q : Scheduler) → q ≡ renewFirst s π now i
+  pub renews : Tabled π → i < 128 → (f : Standing) → Leads s π now (floor s π now) f → (q : Scheduler) → q ≡ renewFirst s π now i
       → (r : Account) → r ≡ renewedAt (vcpuAt s i) (getD (q .accounts) i zeros) f (π .«wake_boost»)
       → i % 8 < min (s .«vcpus_per_domain») (π .«vcpus_per_domain») → i / 8 < π .«domain_count»
       → withAccounts q (set (q .accounts) i r) ≡ renewFirst s π now (suc i)

@@ -9,7 +9,7 @@ use Rattle.system.specs.Reads.{slot}
 use Rattle.policy.specs.declared.Account.{Account}
 use Rattle.policy.specs.declared.Scheduler.{Scheduler}
 use Rattle.policy.specs.Accounts.{plain, blankAccount, accountAt, covers, accountOf}
-use Rattle.policy.specs.AccountLaws.{Ledger}
+use Rattle.policy.specs.AccountLaws.{Tabled}
 
 -- an element that is there does not depend on what is read past the end
 any-default : (l : List Account) (i : ℕ) (a b : Account) → i < length l → getD l i a ≡ getD l i b
@@ -21,7 +21,7 @@ any-default (x ∷ l) (suc i) a b h = any-default l i a b (omega arith)
 abbrev pub zeros : Account
 zeros = record { weight = 0; offset = []; «was_schedulable» = false }
 
-module _ (π : Scheduler) (L : Ledger π) (i : ℕ) (h : i < 128) where
+module _ (π : Scheduler) (L : Tabled π) (i : ℕ) (h : i < 128) where
   pub stored : getD (π .accounts) i zeros ≡ accountAt π i
   unfolding accountAt
   stored = any-default (π .accounts) i zeros blankAccount (omega (arith, L .accounts))

@@ -23,7 +23,7 @@ use Rattle.policy.specs.Standing.{slots, present, deserves}
 use Rattle.policy.specs.Accounting.{pooled, floor, lifted, renewed, renewFirst, accounted}
 
 -- the accounts are as many as the code's
-pub record Ledger (π : Scheduler) : Type 0 where
+pub record Tabled (π : Scheduler) : Type 0 where
   pub accounts : length (π .accounts) ≡ 128
 
 -- ρ is π but for its accounts
@@ -32,7 +32,7 @@ pub record SamePolicy (π ρ : Scheduler) : Type 0 where
   pub vcpus : ρ .«vcpus_per_domain» ≡ π .«vcpus_per_domain»
   pub quantum : ρ .quantum ≡ π .quantum
   pub boost : ρ .«wake_boost» ≡ π .«wake_boost»
-  pub ledger : length (ρ .accounts) ≡ length (π .accounts)
+  pub tabled : length (ρ .accounts) ≡ length (π .accounts)
 
 pub same-covers : {π ρ : Scheduler} → SamePolicy π ρ → (d v : ℕ) → covers ρ d v ≡ covers π d v
 same-covers e d v = rw (e .domains, e .vcpus)
@@ -42,12 +42,12 @@ unfolding putAccount
 put-same π d v a = go (covers π d v)
   where
     go : (b : Bool) → SamePolicy π (cond b (withAccounts π (set (π .accounts) (slot d v) a)) π)
-    go true = record { domains = refl; vcpus = refl; quantum = refl; boost = refl; ledger = length-set (π .accounts) (slot d v) a }
-    go false = record { domains = refl; vcpus = refl; quantum = refl; boost = refl; ledger = refl }
+    go true = record { domains = refl; vcpus = refl; quantum = refl; boost = refl; tabled = length-set (π .accounts) (slot d v) a }
+    go false = record { domains = refl; vcpus = refl; quantum = refl; boost = refl; tabled = refl }
 
 pub renew-same : (s : System) (π : Scheduler) (now k : ℕ) → SamePolicy π (renewFirst s π now k)
 unfolding renewFirst
-renew-same s π now zero = record { domains = refl; vcpus = refl; quantum = refl; boost = refl; ledger = refl }
+renew-same s π now zero = record { domains = refl; vcpus = refl; quantum = refl; boost = refl; tabled = refl }
 renew-same s π now (suc k) = go (present s k) (renew-same s π now k)
   where
     join : {a b c : Scheduler} → SamePolicy a b → SamePolicy b c → SamePolicy a c
@@ -57,7 +57,7 @@ renew-same s π now (suc k) = go (present s k) (renew-same s π now k)
           vcpus = y .vcpus ∙ x .vcpus;
           quantum = y .quantum ∙ x .quantum;
           boost = y .boost ∙ x .boost;
-          ledger = y .ledger ∙ x .ledger;
+          tabled = y .tabled ∙ x .tabled;
         }
 
     go : (b : Bool) → SamePolicy π (renewFirst s π now k)
@@ -75,7 +75,7 @@ covers-below π d v e =
 
 -- ---- what is looked up after an account was put
 
-module _ (π : Scheduler) (L : Ledger π) (i : ℕ) (a : Account) where
+module _ (π : Scheduler) (L : Tabled π) (i : ℕ) (a : Account) where
   abbrev put : Scheduler
   put = putAccount π (i / 8) (i % 8) a
 
@@ -105,12 +105,12 @@ module _ (π : Scheduler) (L : Ledger π) (i : ℕ) (a : Account) where
 
 -- ---- what is looked up after accounting
 
-module _ (s : System) (π : Scheduler) (L : Ledger π) (now : ℕ) where
+module _ (s : System) (π : Scheduler) (L : Tabled π) (now : ℕ) where
   abbrev upTo : ℕ → Scheduler
   upTo k = renewFirst s π now k
 
-  ledger : (k : ℕ) → Ledger (upTo k)
-  ledger k = record { accounts = renew-same s π now k .ledger ∙ L .accounts }
+  tabled : (k : ℕ) → Tabled (upTo k)
+  tabled k = record { accounts = renew-same s π now k .tabled ∙ L .accounts }
 
   -- the account of slot i in ρ is renewed, and why: the vCPU is present, and in the policy's shape
   record Renewed (k i : ℕ) (ρ : Scheduler) : Type 0 where
@@ -144,9 +144,9 @@ module _ (s : System) (π : Scheduler) (L : Ledger π) (now : ℕ) where
             covered = ap (λ (j : ℕ). covers π (j / 8) (j % 8)) x ∙ (sym (same-covers (renew-same s π now k) (k / 8) (k % 8)) ∙ e);
             is =
                 subst (λ (j : ℕ). accountOf (putAccount (upTo k) (k / 8) (k % 8) a) (j / 8) (j % 8) ≡ renewed s π now j) (sym x)
-                (put-here (upTo k) (ledger k) k a e);
+                (put-here (upTo k) (tabled k) k a e);
           })
-      here false e p x ih = later (subst (Either k i) (sym (put-outside (upTo k) (ledger k) k a e)) ih)
+      here false e p x ih = later (subst (Either k i) (sym (put-outside (upTo k) (tabled k) k a e)) ih)
 
       there : i ≢ k → Either k i (upTo k) → Either k i (putAccount (upTo k) (k / 8) (k % 8) a)
       there n (inl h) =
@@ -154,9 +154,9 @@ module _ (s : System) (π : Scheduler) (L : Ledger π) (now : ℕ) where
             below = h .below;
             exists = h .exists;
             covered = h .covered;
-            is = put-there (upTo k) (ledger k) k a (i / 8) (i % 8) (λ y. n (omega arith)) ∙ h .is;
+            is = put-there (upTo k) (tabled k) k a (i / 8) (i % 8) (λ y. n (omega arith)) ∙ h .is;
           })
-      there n (inr h) = inr (put-there (upTo k) (ledger k) k a (i / 8) (i % 8) (λ y. n (omega arith)) ∙ h)
+      there n (inr h) = inr (put-there (upTo k) (tabled k) k a (i / 8) (i % 8) (λ y. n (omega arith)) ∙ h)
 
       go : (b : Bool) → present s k ≡ b → Dec (i ≡ k) → Either k i (upTo k)
           → Either (suc k) i (cond b (putAccount (upTo k) (k / 8) (k % 8) a) (upTo k))
@@ -182,10 +182,10 @@ module _ (s : System) (π : Scheduler) (L : Ledger π) (now : ℕ) where
           → accountOf (cond b (putAccount (upTo k) (k / 8) (k % 8) (renewed s π now k)) (upTo k)) (i / 8) (i % 8) ≡ renewed s π now i
       go true h (yes x) ih =
           subst (λ (j : ℕ). accountOf (putAccount (upTo k) (k / 8) (k % 8) (renewed s π now k)) (j / 8) (j % 8) ≡ renewed s π now j) (sym x)
-          (put-here (upTo k) (ledger k) k (renewed s π now k)
+          (put-here (upTo k) (tabled k) k (renewed s π now k)
           (same-covers (renew-same s π now k) (k / 8) (k % 8) ∙ (ap (λ (j : ℕ). covers π (j / 8) (j % 8)) (sym x) ∙ c)))
       go false h (yes x) ih = absurd (false≢true (sym h ∙ (ap (present s) (sym x) ∙ e)))
-      go true h (no n) ih = put-there (upTo k) (ledger k) k (renewed s π now k) (i / 8) (i % 8) (λ y. n (omega arith)) ∙ ih (omega arith)
+      go true h (no n) ih = put-there (upTo k) (tabled k) k (renewed s π now k) (i / 8) (i % 8) (λ y. n (omega arith)) ∙ ih (omega arith)
       go false h (no n) ih = ih (omega arith)
 
   -- ---- the laws
@@ -261,7 +261,7 @@ pub record Weighed (π : Scheduler) (w i : ℕ) (ρ : Scheduler) : Type 0 where
   pub snapshot : wasSchedulable ρ (i / 8) (i % 8) ≡ wasSchedulable π (i / 8) (i % 8)
   pub weight : (weightOf ρ (i / 8) (i % 8) ≡ max (max w 1) 1) ⊎ (weightOf ρ (i / 8) (i % 8) ≡ weightOf π (i / 8) (i % 8))
 
-pub set-weighed : (π : Scheduler) → Ledger π → (d v w i : ℕ) → Weighed π w i (setWeight π d v w)
+pub set-weighed : (π : Scheduler) → Tabled π → (d v w i : ℕ) → Weighed π w i (setWeight π d v w)
 unfolding setWeight putAccount
 set-weighed π L d v w i = go (covers π d v) refl
   where
@@ -301,9 +301,9 @@ set-weighed π L d v w i = go (covers π d v) refl
         rw (setWeight-at π d v w e) (by-slot (slot d v) (rw (x, y) e) (ℕ-discrete i (slot d v)))
     go false e = rw e same
 
-pub set-weight-ledger : (π : Scheduler) → Ledger π → (d v w : ℕ) → Ledger (setWeight π d v w)
+pub set-weight-tabled : (π : Scheduler) → Tabled π → (d v w : ℕ) → Tabled (setWeight π d v w)
 unfolding setWeight
-set-weight-ledger π L d v w = record { accounts = put-same π d v _ .ledger ∙ L .accounts }
+set-weight-tabled π L d v w = record { accounts = put-same π d v _ .tabled ∙ L .accounts }
 
 -- a policy whose offsets were cleared
 pub cleared : (π : Scheduler) (on : Bool) (d v : ℕ) → accountOf (setWakeBoost π on) d v ≡ unboosted (accountOf π d v)
@@ -315,6 +315,6 @@ cleared π on d v = go (covers π d v)
     go true = List·getD-map unboosted (π .accounts) (slot d v) blankAccount
     go false = refl
 
-pub cleared-ledger : (π : Scheduler) → Ledger π → (on : Bool) → Ledger (setWakeBoost π on)
+pub cleared-tabled : (π : Scheduler) → Tabled π → (on : Bool) → Tabled (setWakeBoost π on)
 unfolding setWakeBoost
-cleared-ledger π L on = record { accounts = length-map (π .accounts) unboosted ∙ L .accounts }
+cleared-tabled π L on = record { accounts = length-map (π .accounts) unboosted ∙ L .accounts }

@@ -12,6 +12,7 @@ use Rattle.system.specs.Shape.{fits}
 use Rattle.host.specs.declared.Call.{Call}
 use Rattle.records.specs.declared.Record.{Record}
 use Rattle.records.specs.declared.MaybeCall.{MaybeCall}
+use Rattle.records.specs.declared.Shape.{Shape}
 use Rattle.records.specs.declared.Plan.{Plan}
 
 -- what n bytes from index `at` on say
@@ -43,8 +44,12 @@ abbrev pub callOf : Record → MaybeCall
 callOf r = getD (callsOf r) (r .kind) MaybeCall.None
 
 -- a build of that shape and slice, if it is within the sizes
+abbrev pub shapeOf : Record → Shape
+shapeOf r =
+    record { «num_domains» = r .dom; «vcpus_per_domain» = r .vcpu; «num_pcpus» = r .third; quantum = r .value }
+
 abbrev pub buildOf : Record → Plan
-buildOf r = cond (fits (r .dom) (r .vcpu) (r .third)) (Plan.Build (r .dom) (r .vcpu) (r .third) (r .value)) (Plan.Refuse TooLarge)
+buildOf r = cond (fits (r .dom) (r .vcpu) (r .third)) (Plan.Build (shapeOf r)) (Plan.Refuse TooLarge)
 
 -- a call, if there is a host
 abbrev pub afterBuild : Bool → MaybeCall → Plan

@@ -25,15 +25,18 @@ pub enum MaybeCall {
     Some(Call),
 }
 
+/// The shape and the slice of a host.
+pub struct Shape {
+    pub num_domains: usize,
+    pub vcpus_per_domain: usize,
+    pub num_pcpus: usize,
+    pub quantum: u64,
+}
+
 /// What a script does of a record: it is refused, or a host is built, or the host is called.
 pub enum Plan {
     Refuse(Answer),
-    Build {
-        num_domains: usize,
-        vcpus_per_domain: usize,
-        num_pcpus: usize,
-        quantum: u64,
-    },
+    Build(Shape),
     Call(Call),
 }
 
@@ -116,12 +119,12 @@ fn build_of(r: Record) -> Plan
     let vcpus_per_domain = r.vcpu as usize;
     let num_pcpus = r.third as usize;
     if system::within_sizes(num_domains, vcpus_per_domain, num_pcpus) {
-        Plan::Build {
+        Plan::Build(Shape {
             num_domains,
             vcpus_per_domain,
             num_pcpus,
             quantum: r.value,
-        }
+        })
     } else {
         Plan::Refuse(Answer::TooLarge)
     }

@@ -1,6 +1,7 @@
 -- A script: what each record is told, and the text that is written of it.
-use Prim.Native.Nat.{ℕ, zero, suc, _+_, _*_, _/_, _%_, _^_, min}
+use Prim.Native.Nat.{ℕ, zero, suc, _+_, _*_, _/_, _%_, _^_, _≤_, min}
 use mathlib.Core.Bool.{Bool, true, false, cond, _&&_}
+use mathlib.Core.Path.{_≡_}
 use mathlib.Core.List.{List, [], _++_}
 use lib.ListN.{length, drop}
 use Rattle.system.specs.Answers.{told}
@@ -10,7 +11,9 @@ use Rattle.host.specs.Handed.{Handed, counted, built}
 use Rattle.records.specs.declared.Plan.{Plan}
 use Rattle.records.specs.Records.{planOf}
 use Rattle.text.specs.Lines.{answerLine}
+use Rattle.text.specs.Places.{Placed}
 use Rattle.script.specs.declared.Script.{Script}
+use Rattle.script.specs.declared.Taken.{Taken}
 use Rattle.script.specs.Rows.{hostText}
 
 -- a script of which nothing was read: no host is built yet
@@ -20,13 +23,13 @@ begun = record { number = 0; built = false; host = freshHost 0 0 0 0 0 0 }
 -- what a host is told: a refused record leaves it as it is
 unfoldable pub carried : Host → Plan → Handed
 carried h (Plan.Refuse a) = record { number = told a; host = h; count = 0 }
-carried h (Plan.Build d v p q) = built d v p q
+carried h (Plan.Build s) = built (s .«num_domains») (s .«vcpus_per_domain») (s .«num_pcpus») (s .quantum)
 carried h (Plan.Call c) = counted (step h c)
 
 -- whether there is a host after it
 abbrev pub builtAfter : Bool → Plan → Bool
 builtAfter b (Plan.Refuse a) = b
-builtAfter b (Plan.Build d v p q) = true
+builtAfter b (Plan.Build s) = true
 builtAfter b (Plan.Call c) = b
 
 -- the record at the start of what is left of a script: what it does, what it is told, the script after it
@@ -75,3 +78,14 @@ room false = 63
 -- as many records as there are, and as there is room for
 abbrev pub taken : Bool → List ℕ → List ℕ → ℕ
 taken states bs out = min (recordsIn bs) (length out / room states)
+
+abbrev pub takenOf : ℕ → Bool → Host → ℕ → ℕ → Taken
+takenOf number built h records written =
+    record { script = record { number = number; built = built; host = h }; records = records; written = written }
+
+-- what a replay of n records hands back, and what it leaves of the bytes that it writes over
+pub record Replayed (states : Bool) (c : Script) (bs : List ℕ) (n : ℕ) (before : List ℕ) (r : Taken) (out : List ℕ) : Type 0 where
+  pub script : r .script ≡ after c bs n
+  pub records : r .records ≡ n
+  pub placed : Placed before 0 (text states c bs n) out (r .written)
+  pub whole : r .written ≤ length out

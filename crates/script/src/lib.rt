@@ -4,19 +4,21 @@
 ghost use mathlib.Core.Path.{_≡_};
 ghost use mathlib.Core.Bool.{_&&_};
 ghost use Prim.Native.Nat.{_+_, _*_, _/_, _%_, _≤_, _<_, min};
-ghost use lib.ListN.{length};
+ghost use lib.ListN.{length, drop};
 ghost use Rattle.system.specs.Answers.{told};
 ghost use Rattle.system.specs.Reads.{domains, pcpus};
 ghost use Rattle.policy.specs.Accounts.{weightOf};
-ghost use Rattle.host.specs.Handed.{handed};
+ghost use Rattle.host.specs.Handed.{handed, built};
+ghost use Rattle.records.specs.Records.{planOf};
 ghost use Rattle.text.specs.Lines.{answerLine};
 ghost use Rattle.text.specs.Places.{Placed};
 ghost use Rattle.script.specs.Rows.{stateNumber, pcpuNumber, clockNumber, slotRow, pcpuRow, vcpuRows, pcpuRows, hostText};
-ghost use Rattle.script.specs.Script.{begun, carried, builtAfter, stateOf, recordsIn, room, taken, after};
+ghost use Rattle.script.specs.Script.{begun, builtAfter, room, taken, takenOf, Replayed};
 use host::Host;
 use host::Outcome;
 use policy::Scheduler;
 use records::Plan;
+use records::Shape;
 use system::Answer;
 use system::Occupant;
 use system::PhysicalCpu;
@@ -55,24 +57,15 @@ impl Script {
 
 // ---- one record
 
-// What the host is told, and the host after it.
-fn carried(h: Host, plan: Plan) -> Outcome
-    ensures { λ r. ⌜ handed r ≡ carried h plan ⌝ }
+fn built_of(shape: Shape) -> Outcome
+    ensures { λ r. ⌜ handed r ≡ built (shape .«num_domains») (shape .«vcpus_per_domain») (shape .«num_pcpus») (shape .quantum) ⌝ }
 {
-    match plan {
-        Plan::Refuse(answer) => Outcome {
-            answer,
-            host: h,
-            count: 0,
-        },
-        Plan::Build {
-            num_domains,
-            vcpus_per_domain,
-            num_pcpus,
-            quantum,
-        } => Host::new(num_domains, vcpus_per_domain, num_pcpus, quantum),
-        Plan::Call(call) => host::step(h, call),
-    }
+    Host::new(
+        shape.num_domains,
+        shape.vcpus_per_domain,
+        shape.num_pcpus,
+        shape.quantum,
+    )
 }
 
 fn built_after(built: bool, plan: Plan) -> bool
@@ -80,12 +73,7 @@ fn built_after(built: bool, plan: Plan) -> bool
 {
     match plan {
         Plan::Refuse(_) => built,
-        Plan::Build {
-            num_domains: _,
-            vcpus_per_domain: _,
-            num_pcpus: _,
-            quantum: _,
-        } => true,
+        Plan::Build(_) => true,
         Plan::Call(_) => built,
     }
 }
@@ -266,41 +254,74 @@ fn is_shown(states: bool, built: bool) -> bool
     if states { built } else { false }
 }
 
-/// Takes as many records as there are and as there is room for: 63 bytes for each, or 26,000 where
-/// the states are asked for.
-pub fn replay(script: Script, bytes: &[u8], out: &mut [u8], states: bool) -> Taken
-    ensures { λ r. ⌜ r .records ≡ taken states (now (bytes .entry)) (now (out .entry)) ⌝ }
-    ensures { λ r. ⌜ r .script ≡ after script (now (bytes .entry)) (r .records) ⌝ }
-    ensures { λ r. ⌜ Placed (now (out .entry)) 0 (Rattle.script.specs.Script.text states script (now (bytes .entry)) (r .records)) (now (out .exit)) (r .written) ⌝ }
-    ensures { λ r. ⌜ r .written ≤ length (now (out .exit)) ⌝ }
+fn plan_at(built: bool, bytes: &[u8], i: usize) -> Plan
+    requires { ⌜ i * 20 < length (now bytes) ⌝ }
+    ensures { λ p. ⌜ p ≡ planOf built (drop (i * 20) (now (bytes .entry))) ⌝ }
 {
-    let n = least(records_in(bytes.len()), out.len() / room_of(states));
+    let from = i * records::RECORD;
+    records::plan_of(built, &bytes[from..])
+}
+
+fn taken_of(number: u64, built: bool, host: Host, records: usize, written: usize) -> Taken
+    ensures { λ r. ⌜ r ≡ takenOf number built host records written ⌝ }
+{
+    Taken {
+        script: Script {
+            number,
+            built,
+            host,
+        },
+        records,
+        written,
+    }
+}
+
+// The first n records. The host is stepped here: handed to a function of its own it would be copied.
+fn stepped(script: Script, bytes: &[u8], out: &mut [u8], states: bool, n: usize) -> Taken
+    requires { ⌜ n ≤ taken states (now bytes) (now out) ⌝ }
+    ensures { λ r. ⌜ Replayed states script (now (bytes .entry)) n (now (out .entry)) r (now (out .exit)) ⌝ }
+{
     let mut number = script.number;
     let mut built = script.built;
     let mut h = script.host;
     let mut written: usize = 0;
     let mut i: usize = 0;
     while i < n {
-        let from = i * 20;
-        let plan = records::plan_of(built, &bytes[from..]);
-        let told = carried(h, plan);
-        let answer = told.answer;
-        h = told.host;
+        let plan = plan_at(built, bytes, i);
+        let mut answer = Answer::Done;
+        let mut moves: usize = 0;
+        match plan {
+            Plan::Refuse(refusal) => {
+                answer = refusal;
+            }
+            Plan::Build(shape) => {
+                let told = built_of(shape);
+                h = told.host;
+                answer = told.answer;
+            }
+            Plan::Call(call) => {
+                let told = host::step(h, call);
+                h = told.host;
+                answer = told.answer;
+                moves = told.count;
+            }
+        }
         built = built_after(built, plan);
         number = std::num::wrapping_add_u64(number, 1);
-        written = put_answer(out, written, number, answer, told.count);
+        written = put_answer(out, written, number, answer, moves);
         if is_shown(states, built) {
             written = put_host(out, written, h);
         }
         i += 1;
     }
-    Taken {
-        script: Script {
-            number,
-            built,
-            host: h,
-        },
-        records: n,
-        written,
-    }
+    taken_of(number, built, h, n, written)
+}
+
+/// Takes as many records as there are and as there is room for: 63 bytes for each, or 26,000 where
+/// the states are asked for.
+pub fn replay(script: Script, bytes: &[u8], out: &mut [u8], states: bool) -> Taken
+    ensures { λ r. ⌜ Replayed states script (now (bytes .entry)) (taken states (now (bytes .entry)) (now (out .entry))) (now (out .entry)) r (now (out .exit)) ⌝ }
+{
+    let n = least(records_in(bytes.len()), out.len() / room_of(states));
+    stepped(script, bytes, out, states, n)
 }

@@ -13,7 +13,7 @@ use Rattle.moves.specs.declared.Choice.{Choice}
 use Rattle.moves.specs.declared.Choice.the-variants.{Run, Preempt, Rest}
 use Rattle.policy.specs.declared.Account.{Account}
 use Rattle.policy.specs.Accounts.{accountOf}
-use Rattle.policy.specs.AccountLaws.{Ledger}
+use Rattle.policy.specs.AccountLaws.{Tabled}
 use Rattle.policy.specs.Standing.{inFlight}
 use Rattle.policy.proofs.Stored.{looked}
 use Rattle.sched.specs.Legal.{slot-below}
@@ -39,8 +39,8 @@ tables c =
     let f = c .good .0 .1 .1 .1 .1 .1 in
     record { vcpus = rw length-map at (f .0 .1 .0 .1); pcpus = rw length-map at (f .1 .0 .1 .0 .1) }
 
-ledger : (c : tie.Start Inv-loop μ-loop) → Ledger (c .args .t2)
-ledger c = record { accounts = rw length-map at (c .good .1 .0 .1 .1 .1 .1 .0 .1 .0 .1) }
+tabled : (c : tie.Start Inv-loop μ-loop) → Tabled (c .args .t2)
+tabled c = record { accounts = rw length-map at (c .good .1 .0 .1 .1 .1 .1 .0 .1 .0 .1) }
 
 abbrev start : tie.At-loop Inv-loop μ-loop → tie.Start Inv-loop μ-loop
 start l = l .before .before .before .before .before .before .before .before
@@ -115,7 +115,7 @@ account : (c : tie.After-looked-up Inv-loop μ-loop) →
 account c =
     let i = c .before .before .before .before .before in
     let b = start (at-loop (i .before .before .before)) in
-    c .looked-up .ensures ∙ looked (b .args .t2) (ledger b) (i .slot-in .result) (slot-in-table i)
+    c .looked-up .ensures ∙ looked (b .args .t2) (tabled b) (i .slot-in .result) (slot-in-table i)
 
 loop-again : tie.Need-loop-again Inv-loop μ-loop
 unfolding vcpuAt putVcpu putOccupant

@@ -9,7 +9,7 @@ use Rattle.service.specs.Service.{value, held}
 use Rattle.system.specs.Reads.{vcpuAt}
 use Rattle.policy.specs.declared.Account.{Account}
 use Rattle.policy.specs.Accounts.{accountOf}
-use Rattle.policy.specs.AccountLaws.{Ledger}
+use Rattle.policy.specs.AccountLaws.{Tabled}
 use Rattle.policy.specs.Standing.{slots, inFlight}
 use Rattle.policy.proofs.Stored.{looked}
 use Rattle.advance.specs.Stores.{row-length}
@@ -33,8 +33,8 @@ below : (c : tie.In-loop Inv-loop μ-loop) → c .before .loop .i < 128
 below c = omega (arith, c .loop-test .taken, c .before .before .least .ensures)
 
 -- the accounts' length
-ledger : (c : tie.Start Inv-loop μ-loop) → Ledger (c .args .t2)
-ledger c = record { accounts = rw length-map at (c .good .1 .0 .1 .1 .1 .1 .0 .1 .0 .1) }
+tabled : (c : tie.Start Inv-loop μ-loop) → Tabled (c .args .t2)
+tabled c = record { accounts = rw length-map at (c .good .1 .0 .1 .1 .1 .1 .0 .1 .0 .1) }
 
 account : (c : tie.After-looked-up Inv-loop μ-loop) →
     let w = c .before .before .before in
@@ -43,7 +43,7 @@ account : (c : tie.After-looked-up Inv-loop μ-loop) →
 account c =
     let w = c .before .before .before in
     let b = w .before .before .before in
-    c .looked-up .ensures ∙ looked (b .args .t2) (ledger b) (w .before .loop .i) (below w)
+    c .looked-up .ensures ∙ looked (b .args .t2) (tabled b) (w .before .loop .i) (below w)
 
 loop-again : tie.Need-loop-again Inv-loop μ-loop
 unfolding vcpuAt

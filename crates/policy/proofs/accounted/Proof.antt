@@ -9,7 +9,7 @@ use borrow.Author.Needs.{needs}
 use Rattle.system.specs.Reads.{vcpuAt}
 use Rattle.policy.specs.Standing.{slots}
 use Rattle.policy.specs.Accounting.{renewFirst, accounted}
-use Rattle.policy.specs.AccountLaws.{Ledger}
+use Rattle.policy.specs.AccountLaws.{Tabled}
 use Rattle.policy.proofs.RenewalTurns.{renews, outside-vcpus, outside-domains}
 use Rattle.policy.proofs.accounted.Statement.{statement}
 use Rattle.policy.proofs.accounted.Tie as tie
@@ -24,8 +24,8 @@ loop-holds : tie.Need-loop-holds Inv-loop μ-loop
 unfolding renewFirst
 loop-holds c = (refl, zero-le)
 
-ledger : (c : tie.Start Inv-loop μ-loop) → Ledger (c .args .p)
-ledger c = record { accounts = rw length-map at (c .good .1 .0 .1 .1 .1 .1 .0 .1 .0 .1) }
+tabled : (c : tie.Start Inv-loop μ-loop) → Tabled (c .args .p)
+tabled c = record { accounts = rw length-map at (c .good .1 .0 .1 .1 .1 .1 .0 .1 .0 .1) }
 
 loop-again : tie.Need-loop-again Inv-loop μ-loop
 unfolding vcpuAt
@@ -43,7 +43,7 @@ loop-again c =
           (⊎-elim
           (λ w.
           w .6
-          ∙ renews s π now i (ledger b) h (g .floor .result) (g .floor .ensures) (l .loop .q) e (w .5 .result) (w .5 .ensures)
+          ∙ renews s π now i (tabled b) h (g .floor .result) (g .floor .ensures) (l .loop .q) e (w .5 .result) (w .5 .ensures)
           (omega arith) (w .2 .taken))
           (⊎-elim
           (λ w. w .3 ∙ (e ∙ sym (outside-domains s π now i (w .2 .left))))

@@ -11,7 +11,7 @@ use Rattle.moves.specs.Scan.{scan}
 use Rattle.policy.specs.declared.Account.{Account}
 use Rattle.policy.specs.Standing.{slots}
 use Rattle.policy.specs.Accounting.{floor}
-use Rattle.policy.specs.AccountLaws.{Ledger}
+use Rattle.policy.specs.AccountLaws.{Tabled}
 use Rattle.policy.specs.Loops.{leader, Leads, none}
 use Rattle.policy.proofs.Ids.{vcpu-below, vcpu-beyond}
 use Rattle.policy.proofs.Stored.{looked}
@@ -25,8 +25,8 @@ Inv-loop now s p n k best₀ i₀ best i = Leads s p now (floorOf s p now i) bes
 abbrev μ-loop : tie.MeasureT-loop
 μ-loop now s p n k best₀ i₀ best i = n - i
 
-ledger : (c : tie.Start Inv-loop μ-loop) → Ledger (c .args .t2)
-ledger c = record { accounts = rw length-map at (c .good .1 .0 .1 .1 .1 .1 .0 .1 .0 .1) }
+tabled : (c : tie.Start Inv-loop μ-loop) → Tabled (c .args .t2)
+tabled c = record { accounts = rw length-map at (c .good .1 .0 .1 .1 .1 .1 .0 .1 .0 .1) }
 
 loop-holds : tie.Need-loop-holds Inv-loop μ-loop
 unfolding scan
@@ -47,7 +47,7 @@ loop-again c =
       rw add-one
           (⊎-elim
           (λ w.
-          let e = w .3 .ensures ∙ looked π (ledger b) i h in
+          let e = w .3 .ensures ∙ looked π (tabled b) i h in
           subst (Leads s π now (floorOf s π now (suc i))) (sym (w .5 ∙ (w .4 .ensures ∙ ap (λ (a : Account). leader best (vcpuAt s i) a now) e)))
           (turned s π now i best (vcpu-below i _ (w .0 .taken)) lead))
           (λ w.

@@ -7,7 +7,7 @@ use Rattle.replay.proofs.stretch.Tie as tie
 
 -- what was written is a part of the output
 slice-aggregate-write-all : tie.Need-slice-aggregate-write-all
-slice-aggregate-write-all c = sym (length-take-le _ _ (c .before .before .before .replay .ensures .1 .1 .1))
+slice-aggregate-write-all c = sym (length-take-le _ _ (c .before .before .before .replay .ensures .whole))
 
 pub stretch-spec : {M : Type 1} → statement M
 stretch-spec =

@@ -5,7 +5,7 @@ use native.Mathlib.Numerals.{add-one}
 use native.Mathlib.Omega.{arith}
 use lib.ListN.{length-map}
 use borrow.Author.Needs.{needs}
-use Rattle.policy.specs.AccountLaws.{Ledger}
+use Rattle.policy.specs.AccountLaws.{Tabled}
 use Rattle.policy.proofs.Stored.{zeros}
 use Rattle.policy.proofs.ClearTurns.{clearedTo, begun, turned, ended}
 use Rattle.policy.proofs.Scheduler.set_wake_boost.Statement.{statement}
@@ -17,8 +17,8 @@ Inv-loop on p₀ i₀ p i = (p ≡ clearedTo p₀ i) × (i ≤ 128)
 abbrev μ-loop : tie.MeasureT-loop
 μ-loop on p₀ i₀ p i = 128 - i
 
-ledger : (c : tie.Start Inv-loop μ-loop) → Ledger (c .args .self)
-ledger c = record { accounts = rw length-map at (c .good .0 .1 .1 .1 .1 .0 .1 .0 .1) }
+tabled : (c : tie.Start Inv-loop μ-loop) → Tabled (c .args .self)
+tabled c = record { accounts = rw length-map at (c .good .0 .1 .1 .1 .1 .0 .1 .0 .1) }
 
 loop-again : tie.Need-loop-again Inv-loop μ-loop
 loop-again c =
@@ -26,13 +26,13 @@ loop-again c =
     let l = t .before in
     let b = l .before in
     let h = t .loop-test .taken in
-    (rw add-one (turned (b .args .self) (ledger b) (l .loop .p) (l .loop .i) zeros h (l .loop .inv .0)), omega arith)
+    (rw add-one (turned (b .args .self) (tabled b) (l .loop .p) (l .loop .i) zeros h (l .loop .inv .0)), omega arith)
 
 returns : tie.Need-returns Inv-loop μ-loop
 returns c =
     let l = c .before in
     let e : l .loop .i ≡ 128 = omega arith in
-    ended (l .before .args .self) (ledger (l .before)) (l .loop .p) (l .before .args .on)
+    ended (l .before .args .self) (tabled (l .before)) (l .loop .p) (l .before .args .on)
     (l .loop .inv .0 ∙ ap (clearedTo (l .before .args .self)) e)
 
 pub set-wake-boost-spec : {M : Type 1} → statement M

@@ -7,14 +7,14 @@ use borrow.Author.Needs.{needs}
 use Rattle.system.specs.Reads.{slot}
 use Rattle.policy.specs.declared.Account.{Account}
 use Rattle.policy.specs.Accounts.{accountOf, withAccounts, putAccount, setWeight}
-use Rattle.policy.specs.AccountLaws.{Ledger}
+use Rattle.policy.specs.AccountLaws.{Tabled}
 use Rattle.system.proofs.Held.{below, beyond}
 use Rattle.policy.proofs.Stored.{stored}
 use Rattle.policy.proofs.Scheduler.set_weight.Statement.{statement}
 use Rattle.policy.proofs.Scheduler.set_weight.Tie as tie
 
-ledger : (c : tie.Start) → Ledger (c .args .self)
-ledger c = record { accounts = rw length-map at (c .good .0 .1 .1 .1 .1 .0 .1 .0 .1) }
+tabled : (c : tie.Start) → Tabled (c .args .self)
+tabled c = record { accounts = rw length-map at (c .good .0 .1 .1 .1 .1 .0 .1 .0 .1) }
 
 -- a with another weight
 abbrev weighed : ℕ → Account → Account
@@ -30,7 +30,7 @@ inside c =
     let i = slot (s .args .dom) (s .args .vcpu) in
     let h : slot (s .args .dom) (s .args .vcpu) < 128 = omega arith in
     rw (below (d .before .least .ensures) (d .if1 .taken), below (v .before .least2 .ensures) (v .if2 .taken), c .raised .ensures)
-    (ap (λ (a : Account). withAccounts π (set (π .accounts) i (weighed (s .args .weight) a))) (stored π (ledger s) i h))
+    (ap (λ (a : Account). withAccounts π (set (π .accounts) i (weighed (s .args .weight) a))) (stored π (tabled s) i h))
 
 no-vcpu : tie.Need-returns-2
 unfolding putAccount setWeight

@@ -7,14 +7,14 @@ use borrow.Author.Needs.{needs}
 use Rattle.system.specs.Reads.{slot}
 use Rattle.policy.specs.declared.Account.{Account}
 use Rattle.policy.specs.Accounts.{accountOf}
-use Rattle.policy.specs.AccountLaws.{Ledger}
+use Rattle.policy.specs.AccountLaws.{Tabled}
 use Rattle.system.proofs.Held.{below, beyond}
 use Rattle.policy.proofs.Stored.{stored}
 use Rattle.policy.proofs.Scheduler.weight_of.Statement.{statement}
 use Rattle.policy.proofs.Scheduler.weight_of.Tie as tie
 
-ledger : (c : tie.Start) → Ledger (c .args .t1)
-ledger c = record { accounts = rw length-map at (c .good .0 .1 .1 .1 .1 .0 .1 .0 .1) }
+tabled : (c : tie.Start) → Tabled (c .args .t1)
+tabled c = record { accounts = rw length-map at (c .good .0 .1 .1 .1 .1 .0 .1 .0 .1) }
 
 inside : tie.Need-returns
 unfolding accountOf
@@ -24,7 +24,7 @@ inside c =
     let s = d .before .before in
     let h : slot (s .args .dom) (s .args .vcpu) < 128 = omega arith in
     rw (below (d .before .least .ensures) (d .if1 .taken), below (v .before .least2 .ensures) (v .if2 .taken))
-    (c .used-weight .ensures ∙ ap (λ (a : Account). max (a .weight) 1) (stored (s .args .t1) (ledger s) _ h))
+    (c .used-weight .ensures ∙ ap (λ (a : Account). max (a .weight) 1) (stored (s .args .t1) (tabled s) _ h))
 
 no-vcpu : tie.Need-returns-2
 unfolding accountOf
