@@ -8,7 +8,6 @@ ghost use Rattle.moves.specs.Decide.{decide};
 ghost use Rattle.moves.specs.Table.{tabled};
 ghost use Rattle.advance.specs.Advance.{limit, next, advance};
 ghost use Rattle.advance.specs.Told.{recommended, advanced, counted};
-ghost use Rattle.system.specs.Reads.{isIdle};
 ghost use Rattle.advance.specs.Rows.{kindOf, Tabulates, idleSet};
 ghost use Rattle.advance.specs.Moves.{namedAs, slotIn, ontoIn, recordAfter, occupantAfter, cleared, freed, isRest, Settles};
 use moves::Choice;
@@ -23,6 +22,8 @@ use system::System;
 use system::Ticks;
 use system::Vcpu;
 use system::VirtualCpu;
+use system::is_idle;
+use system::least;
 
 /// What `next` recommends.
 pub enum Decision {
@@ -57,12 +58,6 @@ struct Table {
 struct Settled {
     system: System,
     count: usize,
-}
-
-fn least(a: usize, b: usize) -> usize
-    ensures { λ r. ⌜ r ≡ min a b ⌝ }
-{
-    if a < b { a } else { b }
 }
 
 // ---- the table of standings
@@ -118,15 +113,6 @@ fn tabulate(s: System, p: Scheduler, now: Ticks) -> Table
         mask,
         service,
         weight,
-    }
-}
-
-fn is_idle(o: Occupant) -> bool
-    ensures { λ r. ⌜ r ≡ isIdle o ⌝ }
-{
-    match o {
-        Occupant::Idle => true,
-        Occupant::Vcpu { dom: _, vcpu: _ } => false,
     }
 }
 

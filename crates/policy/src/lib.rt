@@ -18,6 +18,7 @@ use system::System;
 use system::Ticks;
 use system::Vcpu;
 use system::VirtualCpu;
+use system::least;
 
 /// A vCPU's proportional share.
 pub type Weight = u32;
@@ -264,12 +265,6 @@ pub fn accounted(s: System, p: Scheduler, now: Ticks) -> Scheduler
         i += 1;
     }
     q
-}
-
-fn least(a: usize, b: usize) -> usize
-    ensures { λ r. ⌜ r ≡ min a b ⌝ }
-{
-    if a < b { a } else { b }
 }
 
 // ---- the policy's own calls

@@ -4,7 +4,6 @@
 ghost use mathlib.Core.Path.{_≡_};
 ghost use Prim.Native.Nat.{_+_, _-_, _^_, min};
 ghost use Rattle.system.specs.Answers.{outcome};
-ghost use Rattle.system.specs.Reads.{isIdle};
 ghost use Rattle.sched.specs.Records.{elapsed, withState, withMask, dispatched, left};
 ghost use Rattle.sched.specs.Steps.{wrongState, admitted, preempted, blocked, woken, masked, offlined, ran};
 ghost use Rattle.sched.specs.Steps.{changed, requested, admit, preempt, block, wake, setAffinity};
@@ -22,6 +21,7 @@ use system::System;
 use system::Ticks;
 use system::Vcpu;
 use system::VirtualCpu;
+use system::is_idle;
 
 /// What is asked of one vCPU.
 pub enum Request {
@@ -209,15 +209,6 @@ fn offlined(v: VirtualCpu, full: u64, now: Ticks) -> Change
             pcpu,
         ),
         RunState::Blocked => Change::Write(with_mask(with_state(v, RunState::Offline), full)),
-    }
-}
-
-fn is_idle(o: Occupant) -> bool
-    ensures { λ r. ⌜ r ≡ isIdle o ⌝ }
-{
-    match o {
-        Occupant::Idle => true,
-        Occupant::Vcpu { dom: _, vcpu: _ } => false,
     }
 }
 

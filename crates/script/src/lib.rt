@@ -3,11 +3,10 @@
 
 ghost use mathlib.Core.Path.{_≡_};
 ghost use mathlib.Core.Bool.{_&&_};
-ghost use Prim.Native.Nat.{_+_, _*_, _/_, _%_, _≤_, _<_, min};
+ghost use Prim.Native.Nat.{_+_, _*_, _/_, _≤_, _<_};
 ghost use lib.ListN.{length, drop};
 ghost use Rattle.system.specs.Answers.{told};
 ghost use Rattle.system.specs.Reads.{domains, pcpus};
-ghost use Rattle.policy.specs.Accounts.{weightOf};
 ghost use Rattle.host.specs.Handed.{handed, built};
 ghost use Rattle.records.specs.Records.{planOf};
 ghost use Rattle.text.specs.Lines.{answerLine};
@@ -25,6 +24,7 @@ use system::PhysicalCpu;
 use system::RunState;
 use system::System;
 use system::VirtualCpu;
+use system::least;
 
 /// A script that is under way: how many records it had, and its host, once one is built.
 pub struct Script {
@@ -221,12 +221,6 @@ fn put_host(out: &mut [u8], at: usize, h: Host) -> usize
     let p = h.scheduler;
     let past = put_vcpus(out, at, s, p);
     put_pcpus(out, past, s)
-}
-
-fn least(a: usize, b: usize) -> usize
-    ensures { λ r. ⌜ r ≡ min a b ⌝ }
-{
-    if a < b { a } else { b }
 }
 
 // ---- a stretch of a script

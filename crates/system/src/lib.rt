@@ -133,10 +133,21 @@ pub fn within_sizes(num_domains: usize, vcpus_per_domain: usize, num_pcpus: usiz
     false
 }
 
-fn least(a: usize, b: usize) -> usize
+/// The lesser of two counts: one that is read is held at its size.
+pub fn least(a: usize, b: usize) -> usize
     ensures { λ r. ⌜ r ≡ min a b ⌝ }
 {
     if a < b { a } else { b }
+}
+
+/// Whether nobody holds a pCPU.
+pub fn is_idle(o: Occupant) -> bool
+    ensures { λ r. ⌜ r ≡ isIdle o ⌝ }
+{
+    match o {
+        Occupant::Idle => true,
+        Occupant::Vcpu { dom: _, vcpu: _ } => false,
+    }
 }
 
 // A system of that shape: all vCPUs Offline with every pCPU admitted, all pCPUs idle.

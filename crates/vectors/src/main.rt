@@ -2,10 +2,9 @@
 
 ghost use mathlib.Core.Path.{_≡_};
 ghost use mathlib.Core.Bool.{true};
-ghost use mathlib.Core.List.{List};
 ghost use Prim.Native.Nat.{_+_, _*_, _-_, _/_, max};
 ghost use lib.Dec.{ltb};
-ghost use Rattle.masks.specs.Masks.{permits, pcpuBit, fullMask, clipped, lowest};
+ghost use Rattle.masks.specs.Masks.{permits, fullMask, clipped, lowest};
 ghost use Rattle.service.specs.Service.{value, held, moreDeserving};
 
 const ZERO: [u32; 4] = [0; 4];
