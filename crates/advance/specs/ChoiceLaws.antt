@@ -23,7 +23,8 @@ use Rattle.moves.specs.DecideLaws.{Fits, Beats, IsRun, IsStopped, run-fits, run
 use Rattle.moves.specs.DecideLaws.{victim-worst, victim-earliest}
 use Rattle.policy.specs.declared.Scheduler.{Scheduler}
 use Rattle.policy.specs.Standing.{slots, present, deserves}
-use Rattle.advance.specs.Choices.{isRunnable, isExpired, runsOn, standings, choice}
+use Rattle.verdict.specs.Violations.{onto}
+use Rattle.advance.specs.Choices.{isRunnable, isExpired, standings, choice}
 
 is-runnable : (st : RunState) → isRunnable st ≡ true → st ≡ Runnable
 is-runnable Offline e = absurd (false≢true e)
@@ -91,7 +92,7 @@ choice-preempt s π now i p e =
     let h = both _ _ (k .hot) in
     late (stateAt s i) refl (is-present s i (k .below) (h .0)) (h .1) (k .on)
   where
-    late : (st : RunState) → stateAt s i ≡ st → Present s i → isExpired (π .quantum) (elapsed (vcpuAt s i) now) st ≡ true → runsOn st ≡ p
+    late : (st : RunState) → stateAt s i ≡ st → Present s i → isExpired (π .quantum) (elapsed (vcpuAt s i) now) st ≡ true → onto st ≡ p
         → CanPreempt s π now i p
     late Offline r h x o = absurd (false≢true x)
     late Runnable r h x o = absurd (false≢true x)
@@ -126,7 +127,7 @@ rival-beats s π now i p j c r =
     record {
       below = present-is (r .present) .0;
       waits = all-two (present-is (r .present) .1) (ap isRunnable (r .ready));
-      admits = rw (ap runsOn (c .on)) (r .affine);
+      admits = rw (ap onto (c .on)) (r .affine);
       wins = r .wins;
     }
 

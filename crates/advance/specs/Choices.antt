@@ -1,11 +1,12 @@
 -- The next move: who waits, who may be preempted, and the decision over these.
-use Prim.Native.Nat.{ℕ, _%_}
+use Prim.Native.Nat.{ℕ}
 use mathlib.Core.Bool.{Bool, true, false, _&&_}
 use lib.Dec.{ltb, leb}
 use Rattle.system.specs.declared.RunState.{RunState}
 use Rattle.system.specs.declared.RunState.the-variants.{Offline, Runnable, Running, Blocked}
 use Rattle.system.specs.declared.System.{System}
 use Rattle.system.specs.Reads.{pcpus, vcpuAt, occupantAt, isIdle}
+use Rattle.verdict.specs.Violations.{onto}
 use Rattle.sched.specs.Records.{elapsed}
 use Rattle.moves.specs.declared.Choice.{Choice}
 use Rattle.moves.specs.Decide.{Standings, decide}
@@ -25,18 +26,12 @@ isExpired q e Runnable = false
 isExpired q e (Running p) = leb q e
 isExpired q e Blocked = false
 
-abbrev pub runsOn : RunState → ℕ
-runsOn Offline = 0
-runsOn Runnable = 0
-runsOn (Running p) = p
-runsOn Blocked = 0
-
 unfoldable pub standings : System → Scheduler → ℕ → Standings
 standings s π now =
     record {
       waits = λ i. present s i && isRunnable ((vcpuAt s i) .state);
       hot = λ i. present s i && isExpired (π .quantum) (elapsed (vcpuAt s i) now) ((vcpuAt s i) .state);
-      on = λ i. runsOn ((vcpuAt s i) .state);
+      on = λ i. onto ((vcpuAt s i) .state);
       mask = λ i. (vcpuAt s i) .affinity;
       beats = deserves s π now;
       idle = λ p. ltb p (pcpus s) && isIdle (occupantAt s p);

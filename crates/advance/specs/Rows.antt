@@ -29,7 +29,8 @@ use Rattle.moves.specs.Table.{tabled, rowAt}
 use Rattle.policy.specs.declared.Scheduler.{Scheduler}
 use Rattle.policy.specs.Accounts.{offsetOf}
 use Rattle.policy.specs.Standing.{slots, present, inFlight, weightAt, serviceAt, deserves}
-use Rattle.advance.specs.Choices.{isRunnable, isExpired, runsOn, standings, choice}
+use Rattle.verdict.specs.Violations.{onto}
+use Rattle.advance.specs.Choices.{isRunnable, isExpired, standings, choice}
 use Rattle.advance.specs.ChoiceLaws.{is-present}
 use Rattle.advance.specs.Stores.{setRow, row-there, row-here, limbs-same}
 
@@ -91,7 +92,7 @@ hot-by true q e (Running p) = go (leb q e)
 hot-by true q e Blocked = refl
 
 on-by : (b : Bool) (q e : ℕ) (st : RunState) → ((p : ℕ) → st ≡ Running p → p < 64) → (b && isExpired q e st) ≡ true
-    → cond b (kindIn q e st) 0 - 2 ≡ runsOn st
+    → cond b (kindIn q e st) 0 - 2 ≡ onto st
 on-by false q e st h x = absurd (false≢true x)
 on-by true q e Offline h x = absurd (false≢true x)
 on-by true q e Runnable h x = absurd (false≢true x)

@@ -1,23 +1,22 @@
 -- When the book and the system agree; who holds a pCPU follows from the lines. Assumes nothing.
-use Prim.Native.Nat.{ℕ, _*_, _/_, _%_, _≤_, _<_, min}
-use mathlib.Core.Bool.{Bool, true, false, cond, _&&_, false≢true}
-use mathlib.Core.Path.{_≡_, refl, sym, _∙_, ap, subst}
+use Prim.Native.Nat.{ℕ, _*_, _%_, _≤_, _<_}
+use mathlib.Core.Bool.{Bool, true, _&&_}
+use mathlib.Core.Path.{_≡_, refl, sym, _∙_, ap}
 use native.Mathlib.Omega.{arith}
-use lib.Dec.{ltb, eqb}
-use borrow.Author.Tests.{ltb-true, lt-ltb, eqb-true, eq-eqb}
+use lib.Dec.{ltb}
+use borrow.Author.Tests.{ltb-true, lt-ltb, eq-eqb}
 use Rattle.masks.specs.Conj.{both}
-use Rattle.system.specs.declared.RunState.{RunState}
-use Rattle.system.specs.declared.RunState.the-variants.{Offline, Runnable, Running, Blocked}
+use Rattle.system.specs.declared.RunState.the-variants.{Running}
 use Rattle.system.specs.declared.VirtualCpu.{VirtualCpu}
 use Rattle.system.specs.declared.Occupant.{Occupant}
 use Rattle.system.specs.declared.Occupant.the-variants.{Idle, Vcpu}
 use Rattle.system.specs.declared.System.{System}
 use Rattle.system.specs.Reads.{pcpus, slot, vcpuAt, occupantAt}
-use Rattle.verdict.specs.Sound.{Present, Sound}
-use Rattle.sched.specs.Legal.{stateAt, slot-of, slot-domain, slot-vcpu}
+use Rattle.verdict.specs.Violations.{runsOn}
+use Rattle.verdict.specs.Sound.{Present, Sound, runs-on}
 use Rattle.moves.specs.Scan.{Pick, nobody, at, scan, scan-sound, scan-complete}
 use Rattle.moves.specs.Decide.{never}
-use Rattle.host.specs.Book.{Line, Book, Shape, runsOn, holder, occupantBy}
+use Rattle.host.specs.Book.{Line, Book, Shape, holder, occupantBy}
 
 -- a line says what a record has; the clock counts only while Running
 pub record Says (l : Line) (v : VirtualCpu) : Type 0 where
@@ -39,12 +38,6 @@ pub record Lines (b : Book) (s : System) : Type 0 where
 pub record Agrees (k : Shape) (b : Book) (s : System) : Type 0 where
   pub lines : Lines b s
   pub holders : (p : ℕ) → p < k .pcpus → occupantAt s p ≡ occupantBy (holder k b p)
-
-runs-on : (p : ℕ) (st : RunState) → runsOn p st ≡ true → st ≡ Running p
-runs-on p Offline e = absurd (false≢true e)
-runs-on p Runnable e = absurd (false≢true e)
-runs-on p (Running q) e = ap Running (eqb-true q p e)
-runs-on p Blocked e = absurd (false≢true e)
 
 -- in a sound system whoever is Running on a pCPU holds it, and only that one
 pub holder-agrees : (k : Shape) (b : Book) (s : System) (p : ℕ) → Shaped k s → Sound s → Lines b s → p < k .pcpus

@@ -1,6 +1,6 @@
 -- The book: the records that the calls alone imply. It reads no system; of an advance it is handed the moves.
 use Prim.Native.Nat.{ℕ, zero, suc, _+_, _-_, _*_, _/_, _%_, _^_, min}
-use mathlib.Core.Bool.{Bool, true, false, cond, not, _&&_}
+use mathlib.Core.Bool.{Bool, cond, _&&_}
 use mathlib.Core.List.{List, [], _∷_}
 use lib.Dec.{ltb, eqb}
 use Rattle.masks.specs.Masks.{permits, fullMask, clipped}
@@ -8,6 +8,7 @@ use Rattle.system.specs.declared.RunState.{RunState}
 use Rattle.system.specs.declared.RunState.the-variants.{Offline, Runnable, Running, Blocked}
 use Rattle.system.specs.declared.Occupant.{Occupant}
 use Rattle.system.specs.declared.Occupant.the-variants.{Idle, Vcpu}
+use Rattle.verdict.specs.Violations.{runsOn}
 use Rattle.moves.specs.declared.Choice.{Choice}
 use Rattle.moves.specs.declared.Choice.the-variants.{Run, Preempt, Rest}
 use Rattle.moves.specs.Scan.{Pick, nobody, at, scan, some}
@@ -54,12 +55,6 @@ abbrev pub closed : Line → RunState → ℕ → Line
 closed l st now = record { state = st; time = min (l .time + (now - l .clock)) (2 ^ 64 - 1); clock = l .clock; mask = l .mask }
 
 -- ---- who holds a pCPU: whoever is Running on it
-
-abbrev pub runsOn : ℕ → RunState → Bool
-runsOn p Offline = false
-runsOn p Runnable = false
-runsOn p (Running q) = eqb q p
-runsOn p Blocked = false
 
 unfoldable pub holder : Shape → Book → ℕ → Pick
 holder k b p = scan (λ i. ltb (i % 8) (k .vcpus) && runsOn p ((b i) .state)) never (k .domains * 8)

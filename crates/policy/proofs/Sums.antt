@@ -1,23 +1,16 @@
 -- Sums and quotients that are held at each step are held once. Assumes nothing.
 use Prim.Native.Nat.{ℕ, _+_, _-_, _*_, _/_, _^_, _≤_, min, max}
-use mathlib.Core.Path.{_≡_, ap}
+use mathlib.Core.Path.{_≡_, _∙_, ap}
 use native.Mathlib.Omega.{arith}
 use native.Mathlib.Nat.{div-le-self}
-use Rattle.service.specs.Service.{value, limbs, held}
-use Rattle.service.specs.Laws.{value-held}
+use Rattle.service.specs.Service.{value, held}
+use Rattle.service.specs.Laws.{value-held, held-sum, held-sum-both}
 use Rattle.policy.specs.Accounting.{lift}
 
--- m stands for the largest number of 128 bits
-held-sum : (a b c m : ℕ) → min (min (min a m + min b m) m + c) m ≡ min (a + b + c) m
-held-sum a b c m = omega arith
-
-held-once : (a b c : ℕ) → held (min (min a (2 ^ 128 - 1) + min b (2 ^ 128 - 1)) (2 ^ 128 - 1) + c) ≡ held (a + b + c)
-unfolding held
-held-once a b c = ap (limbs 4) (held-sum a b c (2 ^ 128 - 1))
-
 pub sums : (a b c : ℕ) → held (value (held (value (held a) + value (held b))) + c) ≡ held (a + b + c)
-sums a b c = rw (value-held a, value-held b, value-held (min a (2 ^ 128 - 1) + min b (2 ^ 128 - 1))) (held-once a b c)
+sums a b c = ap (λ x. held (value x + c)) (held-sum-both a b) ∙ held-sum (a + b) c
 
+-- m stands for the largest number of 128 bits
 held-part : (q m r : ℕ) → q ≤ m → min q m - min r m ≡ q - r
 held-part q m r l = omega arith
 

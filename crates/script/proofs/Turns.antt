@@ -2,7 +2,7 @@
 use Prim.Native.Nat.{ℕ, suc, _+_, _*_, _-_, _/_, _%_, _^_, _≤_, _<_, zero-le}
 use mathlib.Core.Bool.{Bool, true, false, cond, _&&_, false≢true}
 use mathlib.Core.Path.{_≡_, refl, sym, _∙_, ap, ap₂, subst}
-use mathlib.Core.List.{List, [], _++_}
+use mathlib.Core.List.{List, []}
 use native.Mathlib.Nat.{div-mul-le-self, mul-le-mul-right, suc-mul}
 use native.Mathlib.Numerals.{add-one}
 use native.Mathlib.Omega.{arith}
@@ -23,7 +23,7 @@ use Rattle.text.specs.Lines.{answerLine}
 use Rattle.text.specs.Places.{put, Placed, placed-then}
 use Rattle.script.specs.declared.Script.{Script}
 use Rattle.script.specs.Rows.{hostText}
-use Rattle.script.specs.Script.{carried, builtAfter, next, lineOf, stateOf, entry, after, text, room}
+use Rattle.script.specs.Script.{carried, builtAfter, next, lineTold, hostShown, entry, after, text, room}
 
 abbrev pub scriptOf : ℕ → Bool → Host → Script
 scriptOf number built h = record { number = number; built = built; host = h }
@@ -47,7 +47,7 @@ turn-next {c} {d} {p} {r} {m} {b} t =
     ap (λ (n : ℕ). scriptOf n b (r .host)) (t .number) ∙ ap₂ (λ (x : Bool) (y : Host). scriptOf ((c .number + 1) % 2 ^ 64) x y) after-it h
 
 pub turn-line : {c : Script} {d : List ℕ} {p : Plan} {r : Outcome} {m : ℕ} {b : Bool} → Turn c d p r m b
-    → answerLine m (told (r .answer)) (r .count) ≡ lineOf c d
+    → answerLine m (told (r .answer)) (r .count) ≡ lineTold c d
 turn-line {c} {d} {p} {r} t =
     let x = t .outcome ∙ ap (carried (c .host)) (t .plan) in
     ap (λ (n : ℕ). answerLine n (told (r .answer)) (r .count)) (t .number)
@@ -56,17 +56,17 @@ turn-line {c} {d} {p} {r} t =
 -- the text of one record more
 pub text-more : (states : Bool) (c : Script) (bs : List ℕ) (i : ℕ) {before out mid after′ : List ℕ} {w m end : ℕ}
     → Placed before 0 (text states c bs i) out w → w ≤ length out
-    → Placed out w (lineOf (after c bs i) (drop (i * 20) bs)) mid m
-    → Placed mid m (stateOf states (next (after c bs i) (drop (i * 20) bs))) after′ end
+    → Placed out w (lineTold (after c bs i) (drop (i * 20) bs)) mid m
+    → Placed mid m (hostShown states (next (after c bs i) (drop (i * 20) bs))) after′ end
     → Placed before 0 (text states c bs (suc i)) after′ end
 unfolding text entry
 text-more states c bs i p l q r = placed-then zero-le p (placed-then l q r)
 
 -- the host is shown where it is asked for and there is one
-pub shown : (states : Bool) (c : Script) (b : Bool) → b ≡ states && c .built → b ≡ true → hostText (c .host) ≡ stateOf states c
+pub shown : (states : Bool) (c : Script) (b : Bool) → b ≡ states && c .built → b ≡ true → hostText (c .host) ≡ hostShown states c
 shown states c b e f = sym (ap (λ (a : Bool). cond a (hostText (c .host)) []) (sym e ∙ f))
 
-pub hidden : (states : Bool) (c : Script) (b : Bool) → b ≡ states && c .built → b ≡ false → [] ≡ stateOf states c
+pub hidden : (states : Bool) (c : Script) (b : Bool) → b ≡ states && c .built → b ≡ false → [] ≡ hostShown states c
 hidden states c b e f = sym (ap (λ (a : Bool). cond a (hostText (c .host)) []) (sym e ∙ f))
 
 pub room-more : (i r w : ℕ) → w ≤ i * r + r → w ≤ (i + 1) * r

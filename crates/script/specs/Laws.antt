@@ -2,17 +2,14 @@
 use Prim.Native.Nat.{ℕ, zero, suc, _+_, _*_, _-_, _≤_}
 use mathlib.Core.Bool.{Bool}
 use mathlib.Core.Path.{_≡_, refl, sym, _∙_, ap, ap₂}
-use mathlib.Core.List.{List, [], _++_, append-assoc, append-nil}
+use mathlib.Core.List.{List, _++_, append-assoc, append-nil}
 use native.Mathlib.Nat.{add-zero, add-suc}
 use native.Mathlib.Omega.{arith}
-use lib.ListN.{length, drop, length-append, length-drop}
+use lib.ListN.{length, drop, length-drop}
 use lib.Seq.{drop-append-le, drop-append-seam, drop-drop}
-use Rattle.records.specs.declared.Plan.{Plan}
 use Rattle.records.specs.Laws.{plan-front}
-use Rattle.host.specs.Handed.{Handed}
-use Rattle.text.specs.Lines.{answerLine}
 use Rattle.script.specs.declared.Script.{Script}
-use Rattle.script.specs.Script.{carried, builtAfter, next, lineOf, stateOf, entry, after, text}
+use Rattle.script.specs.Script.{next, entry, after, text}
 
 -- a record is told the same whatever follows it
 next-front : (c : Script) (bs cs : List ℕ) → 20 ≤ length bs → next c (bs ++ cs) ≡ next c bs

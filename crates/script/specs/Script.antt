@@ -33,29 +33,29 @@ builtAfter b (Plan.Build s) = true
 builtAfter b (Plan.Call c) = b
 
 -- the record at the start of what is left of a script: what it does, what it is told, the script after it
-abbrev pub planned : Script → List ℕ → Plan
-planned c bs = planOf (c .built) bs
+abbrev pub plan : Script → List ℕ → Plan
+plan c bs = planOf (c .built) bs
 
 abbrev pub answered : Script → List ℕ → Handed
-answered c bs = carried (c .host) (planned c bs)
+answered c bs = carried (c .host) (plan c bs)
 
 unfoldable pub next : Script → List ℕ → Script
 next c bs =
     record {
       number = (c .number + 1) % 2 ^ 64;
-      built = builtAfter (c .built) (planned c bs);
+      built = builtAfter (c .built) (plan c bs);
       host = (answered c bs) .host;
     }
 
-abbrev pub lineOf : Script → List ℕ → List ℕ
-lineOf c bs = answerLine ((c .number + 1) % 2 ^ 64) ((answered c bs) .number) ((answered c bs) .count)
+abbrev pub lineTold : Script → List ℕ → List ℕ
+lineTold c bs = answerLine ((c .number + 1) % 2 ^ 64) ((answered c bs) .number) ((answered c bs) .count)
 
 -- the host after it, where it is asked for and there is one
-abbrev pub stateOf : Bool → Script → List ℕ
-stateOf states c = cond (states && c .built) (hostText (c .host)) []
+abbrev pub hostShown : Bool → Script → List ℕ
+hostShown states c = cond (states && c .built) (hostText (c .host)) []
 
 unfoldable pub entry : Bool → Script → List ℕ → List ℕ
-entry states c bs = lineOf c bs ++ stateOf states (next c bs)
+entry states c bs = lineTold c bs ++ hostShown states (next c bs)
 
 -- the script after n records, and the text of them; a record has 20 bytes
 unfoldable pub after : Script → List ℕ → ℕ → Script

@@ -2,9 +2,9 @@
 use mathlib.Core.Path.{_≡_, refl, sym, ap, _∙_}
 use mathlib.Core.Bool.{true, false}
 use mathlib.Core.List.{List, [], _∷_}
-use Prim.Native.Nat.{ℕ, zero, suc, _*_, _-_, _%_, _^_, _<_, min}
+use Prim.Native.Nat.{ℕ, zero, suc, _+_, _*_, _-_, _%_, _^_, _<_, min}
 use native.Mathlib.Nat.{le-refl, le-of-lt, lt-of-le-of-lt, min-le-right, mul-le-mul-right, mul-lt-mul-of-pos-left}
-use native.Mathlib.Nat.{mod-one, mod-eq-of-lt, pow-suc}
+use native.Mathlib.Nat.{add-comm, mod-one, mod-eq-of-lt, pow-suc}
 use native.Mathlib.Omega.{arith}
 use lib.Arith.{digits-div, digits-mod, digits-lt, mod-mul}
 use lib.Dec.{lit<, ltb}
@@ -56,6 +56,21 @@ value-below l e h = rw e at (value-bound l h)
 pub held-value : (l : List ℕ) → length l ≡ 4 → ((i : ℕ) → getD l i 0 < 2 ^ 32) → held (value l) ≡ l
 unfolding held
 held-value l e h = ap (limbs 4) (below-lid (value l) (2 ^ 128) (value-below l e h)) ∙ (rw e at (limbs-value l h))
+
+lid-sum : (a b m : ℕ) → min (min a m + b) m ≡ min (a + b) m
+lid-sum a b m = omega arith
+
+held-lid : (a b : ℕ) → held (min a (2 ^ 128 - 1) + b) ≡ held (a + b)
+unfolding held
+held-lid a b = ap (limbs 4) (lid-sum a b (2 ^ 128 - 1))
+
+-- a sum that is held at each step is held once
+pub held-sum : (a b : ℕ) → held (value (held a) + b) ≡ held (a + b)
+held-sum a b = rw (value-held a) (held-lid a b)
+
+pub held-sum-both : (a b : ℕ) → held (value (held a) + value (held b)) ≡ held (a + b)
+held-sum-both a b =
+    held-sum a (value (held b)) ∙ (ap held (add-comm a (value (held b))) ∙ (held-sum b a ∙ ap held (add-comm b a)))
 
 -- the order is exact where neither product is held
 pub deserving-exact : (s w t v : ℕ) → s * v < 2 ^ 128 → t * w < 2 ^ 128 → moreDeserving s w t v ≡ ltb (s * v) (t * w)

@@ -117,4 +117,4 @@ abbrev pub busyIn : List PhysicalCpu → ℕ → ℕ
 busyIn held n = count (λ p. not (isIdle ((getD held p idle) .occupant))) (min n 64)
 
 abbrev pub busyPcpus : System → ℕ
-busyPcpus s = count (λ p. not (isIdle (occupantAt s p))) (pcpus s)
+busyPcpus s = busyIn (s .pcpus) (s .«pcpu_count»)

@@ -16,19 +16,13 @@ use Rattle.system.specs.Reads.{domains, vcpus, pcpus, slot, vcpuAt, occupantAt,
 use Rattle.verdict.specs.declared.Violation.{Violation}
 use Rattle.verdict.specs.declared.Violation.the-variants.{None}
 use Rattle.verdict.specs.Violations.{vcpuViolation, slotViolation, holderViolation, pcpuViolation}
-use Rattle.verdict.specs.Violations.{earliest, firstViolation, isNone, invariantsHold}
+use Rattle.verdict.specs.Violations.{onto, earliest, firstViolation, isNone, invariantsHold}
 use Rattle.verdict.specs.Loops.{runsWithin, runningAt}
 use Rattle.verdict.specs.Sound.{Present, OnPcpu, Sound, earliest-none, clean-runs, holds-none, is-none, sound-iff}
 use Rattle.verdict.proofs.Scan.{or-keeps, stop, counts}
 use Rattle.verdict.proofs.Pigeonhole.{Into, into-le, into-lt}
 
--- the pCPU that a state names, and the slot that an occupant names; of meaning only where there is one
-abbrev onto : RunState → ℕ
-onto Offline = 0
-onto Runnable = 0
-onto (Running p) = p
-onto Blocked = 0
-
+-- the slot that an occupant names, of meaning only where there is one
 abbrev holder : Occupant → ℕ
 holder Idle = 0
 holder (Vcpu d v) = slot d v
@@ -106,7 +100,7 @@ module _ (s : System) where
         ∙ holds-none s p (i / 8) (i % 8) (record { domain = omega arith; vcpu = h .0; on = on })
 
     clean : count (runningAt s) (domains s * 8) ≡ busyPcpus s → (p : ℕ) → p < pcpus s → pcpuViolation s p ≡ None
-    unfolding pcpuViolation
+    unfolding pcpuViolation occupantAt
     clean even p l = go (occupantAt s p) refl (isNone (pcpuViolation s p)) refl
       where
         go : (o : Occupant) → occupantAt s p ≡ o → (b : Bool) → isNone (pcpuViolation s p) ≡ b → pcpuViolation s p ≡ None
@@ -158,7 +152,7 @@ module _ (s : System) (fit : fits (s .«domain_count») (s .«vcpus_per_domain»
 pub tally : (s : System) → fits (s .«domain_count») (s .«vcpus_per_domain») (s .«pcpu_count») ≡ true
     → earliest (slotViolation s) (domains s * 8) ≡ None
     → eqb (count (runningAt s) (domains s * 8)) (busyPcpus s) ≡ invariantsHold s
-unfolding firstViolation invariantsHold
+unfolding firstViolation invariantsHold occupantAt
 tally s fit none = go (eqb (count (runningAt s) (domains s * 8)) (busyPcpus s)) refl (invariantsHold s) refl
   where
     even : count (runningAt s) (domains s * 8) ≡ busyPcpus s → invariantsHold s ≡ true

@@ -78,11 +78,11 @@ named : (o : Occupant) (d v : ℕ) → names o d v ≡ true → o ≡ Vcpu d v
 named Idle d v e = absurd (false≢true e)
 named (Vcpu e u) d v h = let k = both _ _ h in rw (eqb-true e d (k .0), eqb-true u v (k .1))
 
-running : (p : ℕ) (st : RunState) → runsOn p st ≡ true → st ≡ Running p
-running p Offline e = absurd (false≢true e)
-running p Runnable e = absurd (false≢true e)
-running p (Running q) e = ap Running (eqb-true q p e)
-running p Blocked e = absurd (false≢true e)
+pub runs-on : (p : ℕ) (st : RunState) → runsOn p st ≡ true → st ≡ Running p
+runs-on p Offline e = absurd (false≢true e)
+runs-on p Runnable e = absurd (false≢true e)
+runs-on p (Running q) e = ap Running (eqb-true q p e)
+runs-on p Blocked e = absurd (false≢true e)
 
 pub fits-sizes : (d v p : ℕ) → fits d v p ≡ true → (d ≤ 16) × (v ≤ 8) × (p ≤ 64)
 fits-sizes d v p e =
@@ -125,7 +125,7 @@ none-sound s e =
         let a = passed _ _ (OccupantGhost p) refl g in
         let b = passed _ _ (OccupantNotRunning p) refl (a .1) in
         let c = both _ _ (a .0) in
-        record { domain = ltb-true _ _ (c .0); vcpu = ltb-true _ _ (c .1); on = running p _ (b .0) }
+        record { domain = ltb-true _ _ (c .0); vcpu = ltb-true _ _ (c .1); on = runs-on p _ (b .0) }
 
 -- a pCPU whose holder may hold it is in no violation
 pub holds-none : (s : System) (p d v : ℕ) → Holds s p d v → holderViolation s p (Vcpu d v) ≡ None

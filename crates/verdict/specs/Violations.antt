@@ -26,6 +26,13 @@ runsOn p Runnable = false
 runsOn p (Running q) = eqb q p
 runsOn p Blocked = false
 
+-- the pCPU that a state names, 0 unless it is Running
+abbrev pub onto : RunState → ℕ
+onto Offline = 0
+onto Runnable = 0
+onto (Running p) = p
+onto Blocked = 0
+
 -- d/v is Running on pCPU p of n, whose occupant is o: p exists, o is d/v, the mask admits p
 abbrev pub runningViolation : ℕ → Occupant → ℕ → ℕ → ℕ → ℕ → Violation
 runningViolation n o d v mask p =

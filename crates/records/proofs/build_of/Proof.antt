@@ -1,7 +1,6 @@
 -- `records::build_of` meets its contract. Assumes nothing.
 use mathlib.Core.Path.{sym, _∙_}
 use borrow.Author.Needs.{needs}
-use Rattle.records.specs.Records.{buildOf}
 use Rattle.records.proofs.build_of.Statement.{statement}
 use Rattle.records.proofs.build_of.Tie as tie
 

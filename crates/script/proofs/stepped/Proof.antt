@@ -1,22 +1,21 @@
 -- `script::stepped` meets its contract. Assumes nothing.
-use Prim.Native.Nat.{ℕ, _+_, _*_, _-_, _/_, _≤_, _<_, min, zero-le}
-use mathlib.Core.Bool.{Bool, true, false}
+use Prim.Native.Nat.{ℕ, _+_, _*_, _-_, _≤_, _<_, zero-le}
+use mathlib.Core.Bool.{Bool}
 use mathlib.Core.Logic.{⊎-elim}
 use mathlib.Core.Path.{_≡_, refl, sym, _∙_, ap, subst, subst⁻¹}
-use mathlib.Core.List.{List, []}
+use mathlib.Core.List.{List}
 use lib.ListN.{length, drop}
 use native.Mathlib.Numerals.{add-one}
 use native.Mathlib.Omega.{arith}
 use borrow.Author.Needs.{needs}
-use Rattle.text.specs.Places.{Placed, placed-none, placed-then}
+use Rattle.text.specs.Places.{Placed, placed-none}
 use Rattle.host.specs.declared.Outcome.{Outcome}
 use Rattle.host.specs.Handed.{handed}
 use Rattle.script.specs.declared.Script.{Script}
 use Rattle.script.specs.declared.Taken.{Taken}
-use Rattle.script.specs.Script.{carried, builtAfter, after, next, lineOf, stateOf, room, Replayed}
+use Rattle.script.specs.Script.{carried, builtAfter, after, next, lineTold, hostShown, room, Replayed}
 use Rattle.script.specs.Script as specs
-use Rattle.records.specs.Records.{planOf}
-use Rattle.script.proofs.Turns.{scriptOf, left-of, Turn, turn-next, turn-line, text-more, shown, hidden, room-left, room-least}
+use Rattle.script.proofs.Turns.{scriptOf, Turn, turn-next, turn-line, text-more, shown, hidden, room-left, room-least}
 use Rattle.script.proofs.Turns.{told-refused, told-built, told-called, room-taken, room-asked, room-more, placed-as}
 use Rattle.script.proofs.stepped.Statement.{statement}
 use Rattle.script.proofs.stepped.Tie as tie
@@ -103,7 +102,7 @@ there l h = omega (arith, start l .pre)
 
 -- what follows the line: the host, or nothing
 record Shown (states : Bool) (c : Script) (mid : List ℕ) (m : ℕ) (out : List ℕ) (end : ℕ) : Type 0 where
-  placed : Placed mid m (stateOf states c) out end
+  placed : Placed mid m (hostShown states c) out end
   short : end + 63 ≤ m + room states
   same : length out ≡ length mid
 
@@ -142,8 +141,8 @@ loop-again c =
     let found = l .loop .inv .0 in
     let test = inside m .loop-test .taken in
     let here = turn-next t ∙ ap (λ (x : Script). next x (left l)) found in
-    let line = placed-as (put .ensures .0) (turn-line t ∙ ap (λ (x : Script). lineOf x (left l)) found) refl refl in
-    let state = placed-as (s .placed) (ap (stateOf (a .states)) here) refl refl in
+    let line = placed-as (put .ensures .0) (turn-line t ∙ ap (λ (x : Script). lineTold x (left l)) found) refl refl in
+    let state = placed-as (s .placed) (ap (hostShown (a .states)) here) refl refl in
     let fits = space l test in
     let more = text-more (a .states) (a .script) (a .bytes .now) (l .loop .i) (l .loop .inv .1) (omega (arith, fits)) line state in (
       here ∙ sym (ap (after (a .script) (a .bytes .now)) (add-one (l .loop .i))),

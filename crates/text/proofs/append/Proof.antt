@@ -8,7 +8,7 @@ use native.Mathlib.Omega.{arith}
 use borrow.Author.Needs.{needs}
 use borrow.Author.Tests.{lt-leb, le-leb}
 use Rattle.text.specs.declared.Line.{Line}
-use Rattle.text.specs.Places.{roomy, appended, endOf}
+use Rattle.text.specs.Places.{appended, endOf}
 use Rattle.text.proofs.append.Statement.{statement}
 use Rattle.text.proofs.append.Tie as tie
 

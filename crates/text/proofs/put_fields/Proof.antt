@@ -6,7 +6,6 @@ use Prim.Native.Nat.{ℕ}
 use lib.ListN.{take}
 use native.Mathlib.Numerals.{add-one}
 use native.Mathlib.Omega.{arith}
-use borrow.Author.Needs.{needs}
 use Rattle.text.specs.Lines.{fields, fields-more}
 use Rattle.text.specs.Places.{Placed, placed-then, placed-none}
 use Rattle.text.proofs.put_fields.Statement.{statement}

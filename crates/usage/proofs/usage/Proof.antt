@@ -8,7 +8,7 @@ use Rattle.service.specs.Service.{value, limbs, held}
 use Rattle.system.specs.Reads.{slot, vcpuAt}
 use Rattle.usage.specs.Usage.{runtimes}
 use Rattle.usage.proofs.Inside.{inside}
-use Rattle.usage.proofs.Sums.{sum-once}
+use Rattle.service.specs.Laws.{held-sum-both}
 use Rattle.usage.proofs.usage.Statement.{statement}
 use Rattle.usage.proofs.usage.Tie as tie
 
@@ -36,7 +36,7 @@ loop-again c =
     let r = (vcpuAt (a .t1) (slot (a .dom) (l .loop .u))) .runtime in (
       rw add-one
           (c .added .ensures
-          ∙ (ap (λ x. held (value x + value (held r))) (l .loop .inv .0) ∙ sum-once (runtimes (a .t1) (a .dom) (l .loop .u)) r)),
+          ∙ (ap (λ x. held (value x + value (held r))) (l .loop .inv .0) ∙ held-sum-both (runtimes (a .t1) (a .dom) (l .loop .u)) r)),
       omega (arith, i .loop-test .taken),
     )
 
