@@ -1,7 +1,7 @@
 -- The set of idle pCPUs, one pCPU at a time. Assumes nothing.
-use Prim.Native.Nat.{ℕ, zero, suc, _+_, _-_, _^_, _≤_, _<_}
-use mathlib.Core.Bool.{Bool, true, false, cond, _&&_}
-use mathlib.Core.Path.{_≡_, refl, sym, _∙_, ap, ap₂}
+use Prim.Native.Nat.{ℕ, zero, suc, _+_, _-_, _^_, _<_}
+use mathlib.Core.Bool.{Bool, true, false}
+use mathlib.Core.Path.{_≡_, sym, _∙_, ap}
 use native.Mathlib.Nat.{zero-add, suc-add, add-zero, lt-of-lt-of-le}
 use native.Mathlib.Omega.{arith}
 use lib.Pow.{pow-mono}
@@ -9,9 +9,8 @@ use borrow.Author.Tests.{lt-ltb, le-ltb}
 use Rattle.masks.specs.Masks.{pcpuBit}
 use Rattle.masks.specs.Sets.{setOf, setOf-below}
 use Rattle.system.specs.declared.System.{System}
-use Rattle.system.specs.declared.Occupant.{Occupant}
 use Rattle.system.specs.Reads.{pcpus, occupantAt, isIdle}
-use Rattle.advance.specs.Rows.{idleAt, idleSet}
+use Rattle.advance.specs.Loops.{idleAt, idleSet}
 
 module _ (s : System) (q : ℕ) (l : q < pcpus s) where
   here : (b : Bool) → isIdle (occupantAt s q) ≡ b → idleAt s q ≡ b

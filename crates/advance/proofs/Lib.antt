@@ -2,3 +2,14 @@ pub mod Idle
 pub mod Limit
 pub mod Lookups
 pub mod Returned
+pub mod Enacted
+pub mod Exact
+pub mod Going
+pub mod Heat
+pub mod Lag
+pub mod LagMoves
+pub mod Moves
+pub mod Rows
+pub mod Settles
+pub mod Stores
+pub mod Sum

@@ -1,25 +1,22 @@
 -- Laws of the choice on a sound system. What stands above goes by these. Assumes nothing.
-use Prim.Native.Nat.{ℕ, _*_, _/_, _%_, _≤_, _<_}
-use mathlib.Core.Bool.{Bool, true, false, _&&_, false≢true}
-use mathlib.Core.Path.{_≡_, refl, sym, _∙_, ap, subst}
+use Prim.Native.Nat.{ℕ, _≤_, _<_}
+use mathlib.Core.Bool.{Bool, true, false, false≢true}
+use mathlib.Core.Path.{_≡_, refl, _∙_, ap}
 use native.Mathlib.Omega.{arith}
-use lib.Dec.{ltb, leb}
 use borrow.Author.Tests.{ltb-true, lt-ltb, leb-true, le-leb}
 use Rattle.masks.specs.Conj.{both, all-two}
-use Rattle.masks.specs.Masks.{permits}
 use Rattle.system.specs.declared.RunState.{RunState}
 use Rattle.system.specs.declared.RunState.the-variants.{Offline, Runnable, Running, Blocked}
 use Rattle.system.specs.declared.Occupant.{Occupant}
 use Rattle.system.specs.declared.Occupant.the-variants.{Idle, Vcpu}
 use Rattle.system.specs.declared.System.{System}
-use Rattle.system.specs.Reads.{domains, vcpus, pcpus, vcpuAt, occupantAt, isIdle}
-use Rattle.verdict.specs.Sound.{Present, Sound}
+use Rattle.system.specs.Reads.{pcpus, vcpuAt, isIdle}
+use Rattle.verdict.specs.Sound.{Present}
 use Rattle.sched.specs.Records.{elapsed}
-use Rattle.sched.specs.Legal.{stateAt, admits, CanRun}
-use Rattle.moves.specs.declared.Choice.{Choice}
+use Rattle.sched.specs.CanRun.{stateAt, admits, CanRun}
 use Rattle.moves.specs.declared.Choice.the-variants.{Run, Preempt, Rest}
 use Rattle.moves.specs.Scan.{Ranks}
-use Rattle.moves.specs.DecideLaws.{Fits, Beats, IsRun, IsStopped, run-fits, run-found, preempt-beaten, rest-unbeaten, pick-least, pick-earliest}
+use Rattle.moves.specs.DecideLaws.{Fits, Beats, IsRun, run-fits, run-found, preempt-beaten, rest-unbeaten, pick-least, pick-earliest}
 use Rattle.moves.specs.DecideLaws.{victim-worst, victim-earliest}
 use Rattle.policy.specs.declared.Scheduler.{Scheduler}
 use Rattle.policy.specs.Standing.{slots, present, deserves}

@@ -9,7 +9,7 @@ use lib.Dec.{ltb}
 use borrow.Author.Tests.{ltb-true, ltb-false, lt-ltb, le-ltb}
 use Rattle.service.specs.Laws.{deserving-exact}
 use Rattle.system.specs.declared.System.{System}
-use Rattle.sched.specs.Legal.{CanRun}
+use Rattle.sched.specs.CanRun.{CanRun}
 use Rattle.moves.specs.declared.Choice.the-variants.{Run, Preempt}
 use Rattle.moves.specs.Scan.{Ranks}
 use Rattle.policy.specs.declared.Scheduler.{Scheduler}

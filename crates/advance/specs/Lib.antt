@@ -2,16 +2,6 @@ pub mod Choices
 pub mod Advance
 pub mod Told
 pub mod ChoiceLaws
-pub mod Enacted
-pub mod Sum
-pub mod Heat
-pub mod Settles
 pub mod Cross
 pub mod Least
-pub mod Exact
-pub mod Lag
-pub mod LagMoves
-pub mod Stores
-pub mod Rows
-pub mod Moves
-pub mod Going
+pub mod Loops

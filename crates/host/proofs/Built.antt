@@ -1,7 +1,7 @@
 -- A system and a policy built together are a host built. Assumes nothing.
 use Prim.Native.Nat.{ℕ}
-use mathlib.Core.Bool.{Bool, true, false, _&&_, false≢true}
-use mathlib.Core.Path.{_≡_, refl}
+use mathlib.Core.Bool.{true, false, _&&_}
+use mathlib.Core.Path.{_≡_}
 use lib.Dec.{leb}
 use Rattle.masks.specs.Conj.{both}
 use Rattle.system.specs.Answers.{Outcome}

@@ -2,15 +2,6 @@ pub mod Step
 pub mod Handed
 pub mod Book
 pub mod Agreement
-pub mod Matching
-pub mod Keeping
-pub mod Along
 pub mod Lists
-pub mod Shrinks
-pub mod Young
-pub mod Pooling
-pub mod PoolAlong
-pub mod Conclusions
 pub mod Demand3
 pub mod Situations
-pub mod Examples

@@ -1,7 +1,6 @@
 -- A host, its calls, and what one call does.
 use Prim.Native.Nat.{ℕ}
 use mathlib.Core.List.{List, [], _∷_}
-use Rattle.system.specs.declared.System.{System}
 use Rattle.system.specs.Answers.{Outcome}
 use Rattle.system.specs.Shape.{fresh}
 use Rattle.sched.specs.Steps as sched

@@ -1,7 +1,6 @@
 -- The definitions compute at numbers of a word's size.
 use mathlib.Core.Path.{_≡_, refl}
-use mathlib.Core.Bool.{Bool, true, false}
-use Prim.Native.Nat.{ℕ}
+use mathlib.Core.Bool.{false}
 use lib.Bits.{bitAnd}
 use Rattle.masks.specs.Masks.{permits, pcpuBit, fullMask, clipped, first, lowest}
 

@@ -1,6 +1,6 @@
 -- A set of pCPUs is a number: pCPU p is in the set where bit p is set. A word of 64 bits has no bit from 64 up.
 use Prim.Native.Nat.{ℕ, zero, suc, _/_, _%_, _^_, _-_, min}
-use mathlib.Core.Bool.{Bool, true, false, cond, _&&_}
+use mathlib.Core.Bool.{Bool, cond, _&&_}
 use lib.Dec.{ltb, eqb}
 
 -- bit p of m

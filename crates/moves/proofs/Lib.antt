@@ -3,3 +3,4 @@ pub mod Chosen
 pub mod Victim
 pub mod Beaten
 pub mod Decided
+pub mod DecideCong

@@ -1,6 +1,5 @@
 pub mod Scan
 pub mod Decide
 pub mod DecideLaws
-pub mod DecideCong
 pub mod Table
 pub mod Loops

@@ -4,3 +4,4 @@ pub mod Stored
 pub mod ClearTurns
 pub mod FloorTurns
 pub mod RenewalTurns
+pub mod AccountLaws

@@ -16,7 +16,7 @@ use Rattle.policy.specs.declared.Scheduler.{Scheduler}
 use Rattle.policy.specs.Accounts.{plain, covers, accountOf, withAccounts, putAccount}
 use Rattle.policy.specs.Standing.{present, weightAt, serviceAt}
 use Rattle.policy.specs.Accounting.{pooled, floor, lift, lifted, renewed, renewFirst}
-use Rattle.policy.specs.AccountLaws.{Tabled, same-covers, renew-same, kept-until}
+use Rattle.policy.proofs.AccountLaws.{Tabled, same-covers, renew-same, kept-until}
 use Rattle.policy.specs.Loops.{Leads, none, one, liftedTo, renewedAt}
 use Rattle.policy.proofs.Ids.{vcpu-below, vcpu-beyond}
 use Rattle.policy.proofs.Stored.{zeros, looked}

@@ -1,5 +1,4 @@
 pub mod Accounts
 pub mod Standing
 pub mod Accounting
-pub mod AccountLaws
 pub mod Loops

@@ -1,13 +1,13 @@
 -- A vCPU's standing: its service and its weight, and who has had less for it.
 use Prim.Native.Nat.{ℕ, _+_, _-_, _*_, _/_, _%_, _^_, min}
-use mathlib.Core.Bool.{Bool, true, false, _&&_}
-use lib.Dec.{ltb, leb}
+use mathlib.Core.Bool.{Bool}
+use lib.Dec.{ltb}
 use Rattle.service.specs.Service.{moreDeserving}
 use Rattle.system.specs.declared.RunState.{RunState}
 use Rattle.system.specs.declared.RunState.the-variants.{Offline, Runnable, Running, Blocked}
 use Rattle.system.specs.declared.VirtualCpu.{VirtualCpu}
 use Rattle.system.specs.declared.System.{System}
-use Rattle.system.specs.Reads.{domains, vcpus, pcpus, vcpuAt, occupantAt, isIdle}
+use Rattle.system.specs.Reads.{domains, vcpus, vcpuAt}
 use Rattle.sched.specs.Records.{elapsed}
 use Rattle.policy.specs.declared.Scheduler.{Scheduler}
 use Rattle.policy.specs.Accounts.{weightOf, offsetOf}

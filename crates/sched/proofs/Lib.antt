@@ -1,3 +1,9 @@
 pub mod Lookup
 pub mod Turns
 pub mod Stored
+pub mod Legal
+pub mod Requests
+pub mod Cases
+pub mod Runtime
+pub mod Kept
+pub mod Fresh

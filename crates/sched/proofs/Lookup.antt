@@ -18,8 +18,9 @@ use Rattle.sched.specs.declared.Slot.{Slot}
 use Rattle.sched.specs.declared.Slot.the-variants.{At}
 use Rattle.sched.specs.Steps.{refused, changed, ran, applied, found, requested, run}
 use Rattle.sched.specs.Slots.{slotOf, Seated}
-use Rattle.sched.specs.Legal.{stateAt, Legal, stays, keeps, goes-on, comes-off}
-use Rattle.sched.specs.Requests.{changed-legal, ran-legal}
+use Rattle.sched.proofs.Legal.{Legal, stays, keeps, goes-on, comes-off}
+use Rattle.sched.specs.CanRun.{stateAt}
+use Rattle.sched.proofs.Requests.{changed-legal, ran-legal}
 
 pub legal-seated : {s : System} {i : ℕ} {c : Change} → Sound s → Present s i → Legal s i c → Seated c
 legal-seated S h (stays a) = tt

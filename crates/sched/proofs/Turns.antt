@@ -10,9 +10,10 @@ use Rattle.sched.specs.declared.Request.{Request}
 use Rattle.sched.specs.declared.Change.{Change}
 use Rattle.sched.specs.Steps.{changed, applied, offlineFirst}
 use Rattle.sched.specs.Slots.{Seated}
-use Rattle.sched.specs.Legal.{present-on}
-use Rattle.sched.specs.Requests.{changed-legal}
-use Rattle.sched.specs.Kept.{Keeps, first-keeps}
+use Rattle.sched.proofs.Legal.{present-on}
+use Rattle.sched.proofs.Requests.{changed-legal}
+use Rattle.sched.proofs.Kept.{first-keeps}
+use Rattle.sched.specs.Keeps.{Keeps}
 use Rattle.sched.proofs.Lookup.{legal-seated}
 
 -- what turn u does, on s

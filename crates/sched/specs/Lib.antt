@@ -2,9 +2,5 @@ pub mod Records
 pub mod Steps
 pub mod Slots
 pub mod Answered
-pub mod Legal
-pub mod Requests
-pub mod Cases
-pub mod Runtime
-pub mod Kept
-pub mod Fresh
+pub mod Keeps
+pub mod CanRun

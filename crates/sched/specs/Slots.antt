@@ -1,5 +1,5 @@
 -- What the crate's own functions say of slots and of the pCPU that a change names.
-use Prim.Native.Nat.{ℕ, _+_, _*_, _<_}
+use Prim.Native.Nat.{ℕ, _<_}
 use mathlib.Core.Bool.{cond}
 use lib.Dec.{ltb}
 use Rattle.system.specs.declared.VirtualCpu.{VirtualCpu}

@@ -1,5 +1,5 @@
 -- A domain's usage is never held: eight run times of 64 bits are far below 2^128. Assumes nothing.
-use Prim.Native.Nat.{ℕ, zero, suc, _+_, _*_, _^_, _≤_, _<_}
+use Prim.Native.Nat.{ℕ, zero, suc, _*_, _^_, _≤_, _<_}
 use mathlib.Core.Bool.{Bool, true, false, cond}
 use mathlib.Core.Path.{_≡_}
 use native.Mathlib.Nat.{suc-mul, lt-of-le-of-lt, mul-le-mul-right}

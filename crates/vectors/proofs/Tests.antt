@@ -1,5 +1,5 @@
 -- Two equal Booleans pass the test for equality. Assumes nothing.
-use mathlib.Core.Path.{_≡_, refl, ap, _∙_, sym}
+use mathlib.Core.Path.{_≡_, refl}
 use mathlib.Core.Bool.{Bool, true, false, Bool·beq}
 
 beq-refl : (a : Bool) → Bool·beq a a ≡ true

@@ -1,6 +1,5 @@
 -- `advance::idle_set` meets its contract: after q turns of the loop the set has the idle pCPUs below q. Assumes nothing.
-use Prim.Native.Nat.{ℕ, _+_, _-_, _^_, _≤_, _<_, zero-le}
-use mathlib.Core.Bool.{Bool, true, false, cond, _&&_}
+use Prim.Native.Nat.{_+_, _-_, _≤_, _<_, zero-le}
 use mathlib.Core.Path.{_≡_, refl, sym, _∙_, ap, ap₂}
 use mathlib.Core.Logic.{⊎-elim}
 use native.Mathlib.Numerals.{add-one}
@@ -9,7 +8,7 @@ use borrow.Author.Needs.{needs}
 use Rattle.masks.specs.Masks.{pcpuBit}
 use Rattle.masks.specs.Sets.{setOf}
 use Rattle.system.specs.Reads.{pcpus, occupantAt}
-use Rattle.advance.specs.Rows.{idleAt, idleSet}
+use Rattle.advance.specs.Loops.{idleAt}
 use Rattle.advance.proofs.Idle.{joins, joins-below, passes, whole}
 use Rattle.advance.proofs.idle_set.Statement.{statement}
 use Rattle.advance.proofs.idle_set.Tie as tie

@@ -1,5 +1,4 @@
 -- `advance::next` meets its contract. Assumes nothing.
-use Prim.Native.Nat.{_≤_}
 use mathlib.Core.Bool.{true}
 use mathlib.Core.Path.{_≡_, sym, _∙_, ap}
 use native.Mathlib.Omega.{arith}
@@ -7,10 +6,9 @@ use borrow.Author.Needs.{needs}
 use borrow.Author.Tests.{not-true, not-false}
 use Rattle.verdict.specs.Sound.{Sound, sound-iff}
 use Rattle.verdict.specs.Violations.{invariantsHold}
-use Rattle.advance.specs.Choices.{choice}
 use Rattle.advance.specs.Advance.{next, named}
-use Rattle.advance.specs.Rows.{table-decides}
-use Rattle.advance.specs.Moves.{names}
+use Rattle.advance.proofs.Rows.{table-decides}
+use Rattle.advance.proofs.Moves.{names}
 use Rattle.advance.proofs.next.Statement.{statement}
 use Rattle.advance.proofs.next.Tie as tie
 

@@ -1,6 +1,6 @@
 -- `advance::settle` meets its contract: the loop goes on as the definition does. Assumes nothing.
-use Prim.Native.Nat.{ℕ, _+_, _-_, _*_, _/_, _%_, _≤_, _<_}
-use mathlib.Core.Bool.{Bool, true, false, false≢true}
+use Prim.Native.Nat.{ℕ, _+_, _-_, _/_, _%_, _<_}
+use mathlib.Core.Bool.{true, false, false≢true}
 use mathlib.Core.Path.{_≡_, refl, sym, _∙_, ap, ap₂}
 use native.Mathlib.Omega.{arith}
 use lib.ListN.{length-map}
@@ -8,20 +8,21 @@ use borrow.Author.Needs.{needs}
 use Rattle.service.specs.Service.{value, held}
 use Rattle.system.specs.Reads.{vcpuAt}
 use Rattle.system.specs.Writes.{putVcpu, putOccupant, Tables}
-use Rattle.verdict.specs.Sound.{sound-iff, Sound}
+use Rattle.verdict.specs.Sound.{sound-iff}
 use Rattle.moves.specs.declared.Choice.{Choice}
 use Rattle.moves.specs.declared.Choice.the-variants.{Run, Preempt, Rest}
 use Rattle.policy.specs.declared.Account.{Account}
 use Rattle.policy.specs.Accounts.{accountOf}
-use Rattle.policy.specs.AccountLaws.{Tabled}
+use Rattle.policy.proofs.AccountLaws.{Tabled}
 use Rattle.policy.specs.Standing.{inFlight}
 use Rattle.policy.proofs.Stored.{looked}
-use Rattle.sched.specs.Legal.{slot-below}
+use Rattle.sched.proofs.Legal.{slot-below}
 use Rattle.advance.specs.Choices.{choice}
 use Rattle.advance.specs.Advance.{limit}
-use Rattle.advance.specs.Rows.{idleSet}
-use Rattle.advance.specs.Moves.{isRest, slotIn, ontoIn, cleared, freed, moved, Moves, Shifts}
-use Rattle.advance.specs.Going.{Going, going-start, going-decides, going-moves, going-shifts, goes-on, going-rest, going-out}
+use Rattle.advance.specs.Loops.{idleSet}
+use Rattle.advance.proofs.Moves.{moved, Moves, Shifts}
+use Rattle.advance.specs.Loops.{isRest, cleared, freed}
+use Rattle.advance.proofs.Going.{Going, going-start, going-decides, going-moves, going-shifts, goes-on, going-rest, going-out}
 use Rattle.advance.proofs.Limit.{limit-small}
 use Rattle.advance.proofs.settle.Statement.{statement}
 use Rattle.advance.proofs.settle.Tie as tie

@@ -1,7 +1,7 @@
 -- `advance::tabulate` meets its contract: after i turns of the loop the rows below i are there. Assumes nothing.
-use Prim.Native.Nat.{_+_, _-_, _*_, _/_, _%_, _≤_, _<_, max, zero-le}
+use Prim.Native.Nat.{_+_, _-_, _/_, _%_, _≤_, _<_, max, zero-le}
 use mathlib.Core.Bool.{Bool}
-use mathlib.Core.Path.{_≡_, refl, sym, _∙_, ap, subst}
+use mathlib.Core.Path.{_≡_, refl, _∙_, ap}
 use native.Mathlib.Omega.{arith}
 use lib.ListN.{length, length-set, length-map}
 use borrow.Author.Needs.{needs}
@@ -9,11 +9,12 @@ use Rattle.service.specs.Service.{value, held}
 use Rattle.system.specs.Reads.{vcpuAt}
 use Rattle.policy.specs.declared.Account.{Account}
 use Rattle.policy.specs.Accounts.{accountOf}
-use Rattle.policy.specs.AccountLaws.{Tabled}
+use Rattle.policy.proofs.AccountLaws.{Tabled}
 use Rattle.policy.specs.Standing.{slots, inFlight}
 use Rattle.policy.proofs.Stored.{looked}
-use Rattle.advance.specs.Stores.{row-length}
-use Rattle.advance.specs.Rows.{kindOf, Rows, rows-next}
+use Rattle.advance.proofs.Stores.{row-length}
+use Rattle.advance.proofs.Rows.{rows-next}
+use Rattle.advance.specs.Loops.{kindOf, Rows}
 use Rattle.advance.proofs.Lookups.{present-here}
 use Rattle.advance.proofs.tabulate.Statement.{statement}
 use Rattle.advance.proofs.tabulate.Tie as tie

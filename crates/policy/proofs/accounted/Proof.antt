@@ -9,7 +9,7 @@ use borrow.Author.Needs.{needs}
 use Rattle.system.specs.Reads.{vcpuAt}
 use Rattle.policy.specs.Standing.{slots}
 use Rattle.policy.specs.Accounting.{renewFirst, accounted}
-use Rattle.policy.specs.AccountLaws.{Tabled}
+use Rattle.policy.proofs.AccountLaws.{Tabled}
 use Rattle.policy.proofs.RenewalTurns.{renews, outside-vcpus, outside-domains}
 use Rattle.policy.proofs.accounted.Statement.{statement}
 use Rattle.policy.proofs.accounted.Tie as tie

@@ -11,7 +11,7 @@ use Rattle.moves.specs.Scan.{scan}
 use Rattle.policy.specs.declared.Account.{Account}
 use Rattle.policy.specs.Standing.{slots}
 use Rattle.policy.specs.Accounting.{floor}
-use Rattle.policy.specs.AccountLaws.{Tabled}
+use Rattle.policy.proofs.AccountLaws.{Tabled}
 use Rattle.policy.specs.Loops.{leader, Leads, none}
 use Rattle.policy.proofs.Ids.{vcpu-below, vcpu-beyond}
 use Rattle.policy.proofs.Stored.{looked}

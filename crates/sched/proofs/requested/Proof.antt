@@ -8,7 +8,7 @@ use Rattle.system.specs.Reads.{vcpuAt, fullAffinity}
 use Rattle.verdict.specs.Violations.{invariantsHold}
 use Rattle.sched.specs.declared.Slot.{Slot}
 use Rattle.sched.specs.Slots.{Seated}
-use Rattle.sched.specs.Legal.{slot-below}
+use Rattle.sched.proofs.Legal.{slot-below}
 use Rattle.sched.specs.Steps.{changed, applied, requested}
 use Rattle.sched.proofs.Lookup.{toldOf, Located, located, requested-told, changed-seated}
 use Rattle.sched.proofs.Stored.{seat-below, stored}

@@ -9,7 +9,7 @@ use Rattle.system.specs.Reads.{pcpus, vcpuAt, occupantAt}
 use Rattle.verdict.specs.Violations.{invariantsHold}
 use Rattle.sched.specs.declared.Slot.{Slot}
 use Rattle.sched.specs.Slots.{Seated}
-use Rattle.sched.specs.Legal.{slot-below}
+use Rattle.sched.proofs.Legal.{slot-below}
 use Rattle.sched.specs.Steps.{ran, applied, run}
 use Rattle.sched.proofs.Lookup.{toldOf, Located, sound, located, run-told, ran-seated}
 use Rattle.sched.proofs.Stored.{seat-below, stored}

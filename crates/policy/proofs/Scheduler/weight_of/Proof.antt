@@ -7,7 +7,7 @@ use borrow.Author.Needs.{needs}
 use Rattle.system.specs.Reads.{slot}
 use Rattle.policy.specs.declared.Account.{Account}
 use Rattle.policy.specs.Accounts.{accountOf}
-use Rattle.policy.specs.AccountLaws.{Tabled}
+use Rattle.policy.proofs.AccountLaws.{Tabled}
 use Rattle.system.proofs.Held.{below, beyond}
 use Rattle.policy.proofs.Stored.{stored}
 use Rattle.policy.proofs.Scheduler.weight_of.Statement.{statement}

@@ -1,34 +1,31 @@
 -- What every call keeps of a host and its book, and that both tell the same. Assumes nothing.
-use Prim.Native.Nat.{ℕ, zero, suc, _+_, _*_, _/_, _%_, _^_, _≤_, _<_, min}
+use Prim.Native.Nat.{ℕ, zero, suc, _≤_, _<_}
 use mathlib.Core.Bool.{Bool, true, false, cond, not, true≢false, false≢true}
 use mathlib.Core.Path.{_≡_, refl, sym, _∙_, ap, subst, subst₂}
-use mathlib.Core.List.{List, [], _∷_}
 use native.Mathlib.Nat.{min-eq-left}
 use native.Mathlib.Omega.{arith}
 use lib.Dec.{ltb}
 use borrow.Author.Tests.{ltb-true}
-use Rattle.masks.specs.Masks.{fullMask, clipped}
-use Rattle.system.specs.declared.RunState.the-variants.{Runnable}
+use Rattle.masks.specs.Masks.{fullMask}
 use Rattle.system.specs.declared.Occupant.{Occupant}
-use Rattle.system.specs.declared.Occupant.the-variants.{Idle, Vcpu}
 use Rattle.system.specs.declared.System.{System}
 use Rattle.system.specs.declared.Answer.{Answer}
 use Rattle.system.specs.declared.Answer.the-variants.{BadDomain, BadVcpu, BadPcpu}
 use Rattle.system.specs.Answers.{told, Outcome}
 use Rattle.system.specs.Reads.{domains, vcpus, pcpus, slot, vcpuAt, occupantAt, isIdle, vcpuCount, fullAffinity}
-use Rattle.system.specs.Writes.{Tables, SameShape}
-use Rattle.verdict.specs.Violations.{invariantsHold}
+use Rattle.system.specs.Writes.{Tables}
 use Rattle.verdict.specs.Sound.{Present, Sound, sound-iff}
 use Rattle.sched.specs.declared.Request.{Request}
 use Rattle.sched.specs.Steps.{refused, done, guarded, found, applied, changed, ran, requested, run, offlineFirst, offlineAll}
-use Rattle.sched.specs.Legal.{stateAt, Legal, slot-domain, slot-vcpu, present-on}
-use Rattle.sched.specs.Requests.{changed-legal, ran-legal}
-use Rattle.sched.specs.Runtime.{runtimeAt}
-use Rattle.sched.specs.Kept.{Keeps, requested-keeps, run-keeps, first-keeps, offline-all-keeps}
+use Rattle.sched.proofs.Legal.{Legal, slot-domain, slot-vcpu, present-on}
+use Rattle.sched.specs.CanRun.{stateAt}
+use Rattle.sched.proofs.Requests.{changed-legal, ran-legal}
+use Rattle.sched.proofs.Kept.{first-keeps}
 use Rattle.moves.specs.Scan.{Pick, nobody, at, some}
-use Rattle.host.specs.Book.{Line, Book, Shape, holder, occupantBy, Note, Entry, entered, identified, runNote, offlineNote, offlineLines}
-use Rattle.host.specs.Agreement.{Says, Shaped, Lines, holder-agrees}
-use Rattle.host.specs.Matching.{Match, requestNote, request-match, run-match, Alike, applied-alike}
+use Rattle.host.specs.Book.{Book, Shape, holder, occupantBy, Note, Entry, entered, identified, runNote, offlineLines}
+use Rattle.host.specs.Agreement.{Shaped, Lines}
+use Rattle.host.proofs.Holders.{holder-agrees}
+use Rattle.host.proofs.Matching.{Match, requestNote, request-match, run-match, Alike, applied-alike}
 
 -- a system in step with its book
 pub record InStep (k : Shape) (b : Book) (s : System) : Type 0 where

@@ -1,12 +1,11 @@
 -- A change of the system and a note of the book match: both refuse with one number, or both write what says the same.
 -- Assumes nothing.
-use Prim.Native.Nat.{ℕ, _+_, _-_, _*_, _/_, _%_, _^_, _≤_, _<_, min}
+use Prim.Native.Nat.{ℕ, _-_}
 use mathlib.Core.Bool.{Bool, true, false, cond, not}
-use mathlib.Core.Path.{_≡_, refl, sym, _∙_, ap, subst, subst₂}
+use mathlib.Core.Path.{_≡_, refl, sym, subst, subst₂}
 use mathlib.Core.Logic.{_≢_}
 use native.Mathlib.Omega.{arith}
 use native.Mathlib.Decide.{ℕ-discrete}
-use lib.Dec.{eqb}
 use borrow.Author.Tests.{eq-eqb, ne-eqb}
 use Rattle.masks.specs.Masks.{permits}
 use Rattle.system.specs.declared.RunState.{RunState}
@@ -18,16 +17,16 @@ use Rattle.system.specs.declared.System.{System}
 use Rattle.system.specs.declared.Answer.{Answer}
 use Rattle.system.specs.declared.Answer.the-variants.{WrongState, PcpuBusy, NotAffine}
 use Rattle.system.specs.Answers.{told, Outcome}
-use Rattle.system.specs.Reads.{vcpuAt, occupantAt, isIdle}
+use Rattle.system.specs.Reads.{vcpuAt, isIdle}
 use Rattle.system.specs.Writes.{Tables, Wrote, wrote-vcpu, wrote-both}
 use Rattle.verdict.specs.Sound.{Present, Sound}
 use Rattle.sched.specs.declared.Request.{Request}
 use Rattle.sched.specs.declared.Change.{Change}
 use Rattle.sched.specs.declared.Change.the-variants.{Refuse, Write, Move}
-use Rattle.sched.specs.Records.{elapsed, withState, withMask, dispatched, left}
+use Rattle.sched.specs.Records.{withState, withMask, dispatched, left}
 use Rattle.sched.specs.Steps.{admitted, preempted, blocked, woken, masked, offlined, ran, changed, applied}
-use Rattle.sched.specs.Legal.{NotRunning, Legal, stays, keeps, goes-on, comes-off, slot-below, present-back}
-use Rattle.sched.specs.Requests.{off-nr, ready-nr, blocked-nr}
+use Rattle.sched.proofs.Legal.{NotRunning, Legal, goes-on, comes-off, slot-below, present-back}
+use Rattle.sched.proofs.Requests.{off-nr, ready-nr, blocked-nr}
 use Rattle.host.specs.Book.{Line, Book, noted, marked, remasked, opened, closed, Note, refuse, write, Entry, entered, admitNote, runNote, preemptNote, blockNote, wakeNote, offlineNote, maskNote}
 use Rattle.host.specs.Agreement.{Says, Lines}
 

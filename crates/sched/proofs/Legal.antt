@@ -1,12 +1,12 @@
 -- What a change may do to a sound system, and that it leaves a sound one. Assumes nothing.
 use Prim.Native.Nat.{ℕ, _+_, _-_, _/_, _%_, _^_, _<_, min}
-use mathlib.Core.Bool.{Bool, true}
+use mathlib.Core.Bool.{true}
 use mathlib.Core.Path.{_≡_, sym, _∙_, ap}
 use native.Mathlib.Omega.{arith}
 use native.Mathlib.Decide.{ℕ-discrete}
 use Rattle.masks.specs.Masks.{permits}
 use Rattle.system.specs.declared.RunState.{RunState}
-use Rattle.system.specs.declared.RunState.the-variants.{Runnable, Running}
+use Rattle.system.specs.declared.RunState.the-variants.{Running}
 use Rattle.system.specs.declared.VirtualCpu.{VirtualCpu}
 use Rattle.system.specs.declared.Occupant.the-variants.{Idle, Vcpu}
 use Rattle.system.specs.declared.System.{System}
@@ -17,20 +17,7 @@ use Rattle.verdict.specs.Sound.{Present, OnPcpu, Holds, Sound}
 use Rattle.sched.specs.declared.Change.{Change}
 use Rattle.sched.specs.declared.Change.the-variants.{Refuse, Write, Move}
 use Rattle.sched.specs.Records.{elapsed}
-
-abbrev pub stateAt : System → ℕ → RunState
-stateAt s i = (vcpuAt s i) .state
-
-abbrev pub admits : System → ℕ → ℕ → Bool
-admits s i p = permits ((vcpuAt s i) .affinity) p
-
--- the vCPU of slot i waits, and may be dispatched onto pCPU p
-pub record CanRun (s : System) (i p : ℕ) : Type 0 where
-  pub present : Present s i
-  pub ready : stateAt s i ≡ Runnable
-  pub exists : p < pcpus s
-  pub free : occupantAt s p ≡ Idle
-  pub affine : admits s i p ≡ true
+use Rattle.sched.specs.CanRun.{stateAt, admits, CanRun}
 
 abbrev pub NotRunning : RunState → Type 0
 NotRunning st = (q : ℕ) → st ≡ Running q → ⊥

@@ -1,42 +1,39 @@
 -- Along any list of calls: a host stays in step with its book, and each advance comes to rest in few moves. Assumes nothing.
-use Prim.Native.Nat.{ℕ, _+_, _*_, _/_, _%_, _≤_, _<_}
-use mathlib.Core.Bool.{Bool, true, false, cond}
+use Prim.Native.Nat.{ℕ, _≤_}
+use mathlib.Core.Bool.{Bool}
 use mathlib.Core.Path.{_≡_, refl, sym, _∙_, ap, subst}
-use mathlib.Core.List.{List, [], _∷_}
+use mathlib.Core.List.{List, []}
 use native.Mathlib.Omega.{arith}
-use lib.ListN.{length}
 use Rattle.masks.specs.Masks.{clipped}
 use Rattle.system.specs.declared.RunState.the-variants.{Runnable}
 use Rattle.sched.specs.declared.Request.{Request}
 use Rattle.system.specs.declared.System.{System}
 use Rattle.system.specs.Answers.{Outcome}
-use Rattle.system.specs.Reads.{pcpus, slot, vcpuAt}
+use Rattle.system.specs.Reads.{pcpus}
 use Rattle.system.specs.Writes.{Tables, SameShape}
-use Rattle.verdict.specs.Violations.{invariantsHold}
-use Rattle.verdict.specs.Sound.{Present, Sound, sound-iff}
+use Rattle.verdict.specs.Sound.{Sound, sound-iff}
 use Rattle.sched.specs.Steps as sched
-use Rattle.sched.specs.Legal.{CanRun}
-use Rattle.sched.specs.Requests.{ready-nr}
-use Rattle.sched.specs.Kept.{Keeps, requested-keeps, run-keeps, offline-all-keeps}
+use Rattle.sched.proofs.Requests.{ready-nr}
+use Rattle.sched.proofs.Kept.{requested-keeps, run-keeps, offline-all-keeps}
+use Rattle.sched.specs.Keeps.{Keeps}
 use Rattle.moves.specs.declared.Choice.{Choice}
 use Rattle.moves.specs.declared.Choice.the-variants.{Run, Preempt, Rest}
 use Rattle.policy.specs.declared.Scheduler.{Scheduler}
-use Rattle.policy.specs.Accounts.{putAccount, setWeight, setWakeBoost, accountOf}
+use Rattle.policy.specs.Accounts.{setWeight, setWakeBoost}
 use Rattle.policy.specs.Accounting.{accounted}
-use Rattle.policy.specs.AccountLaws.{SamePolicy, put-same, renew-same}
+use Rattle.policy.proofs.AccountLaws.{put-same, renew-same}
 use Rattle.advance.specs.Advance as policy
 use Rattle.policy.specs.Standing.{slots}
 use Rattle.advance.specs.Choices.{choice}
-use Rattle.advance.specs.ChoiceLaws.{CanPreempt}
-use Rattle.advance.specs.Enacted as enacted
-use Rattle.advance.specs.Settles.{Trace, rest, run, preempt, settle-trace, trace-keeps, trace-few, advance-rests, rest-quiet}
+use Rattle.advance.proofs.Enacted as enacted
+use Rattle.advance.proofs.Settles.{Trace, rest, run, preempt, settle-trace, trace-keeps, advance-rests}
 use Rattle.host.specs.declared.Host.{Host}
 use Rattle.host.specs.declared.Call.{Call}
-use Rattle.host.specs.Step.{Step, step, bySystem, byAdvance, after}
+use Rattle.host.specs.Step.{Step, step, bySystem, byAdvance}
 use Rattle.host.specs.Book.{Book, Shape, Entry, moved, movedAll, enter}
-use Rattle.host.specs.Agreement.{Says, Shaped, Lines}
-use Rattle.host.specs.Matching.{Alike, on-pcpu, off-pcpu, wrote-lines}
-use Rattle.host.specs.Keeping.{InStep, requested-alike, run-alike, offline-all-alike}
+use Rattle.host.specs.Agreement.{Shaped, Lines}
+use Rattle.host.proofs.Matching.{Alike, on-pcpu, off-pcpu, wrote-lines}
+use Rattle.host.proofs.Keeping.{InStep, requested-alike, run-alike, offline-all-alike}
 
 -- ---- an advance's moves are those of the book
 

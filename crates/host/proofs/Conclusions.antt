@@ -1,5 +1,5 @@
 -- From what is kept along a list to what demand 3 says of it. Assumes nothing.
-use Prim.Native.Nat.{ℕ, zero, suc, _+_, _-_, _*_, _/_, _%_, _^_, _≤_, _<_, min, max}
+use Prim.Native.Nat.{ℕ, _+_, _-_, _*_, _/_, _%_, _≤_, _<_, max}
 use mathlib.Core.Bool.{Bool, true, false, cond}
 use mathlib.Core.Path.{_≡_, refl, sym, _∙_, ap, ap₂, subst}
 use mathlib.Core.List.{List, [], _∷_, _++_}
@@ -15,34 +15,34 @@ use Rattle.system.specs.declared.VirtualCpu.{VirtualCpu}
 use Rattle.system.specs.declared.System.{System}
 use Rattle.system.specs.Shape.{offline, fresh}
 use Rattle.system.specs.Shape as shape
-use Rattle.system.specs.Reads.{pcpus, slot, vcpuAt, occupantAt, isIdle}
-use Rattle.verdict.specs.Sound.{Present, Sound}
-use Rattle.sched.specs.Legal.{stateAt, CanRun, NotRunning, slot-below, same-pcpus}
-use Rattle.sched.specs.Requests.{off-nr}
-use Rattle.sched.specs.Fresh.{fresh-tables, fresh-vcpu, fresh-sound}
-use Rattle.moves.specs.Scan.{Pick, nobody}
+use Rattle.system.specs.Reads.{pcpus, slot, vcpuAt}
+use Rattle.verdict.specs.Sound.{Present}
+use Rattle.sched.proofs.Legal.{slot-below}
+use Rattle.sched.specs.CanRun.{stateAt}
+use Rattle.sched.proofs.Requests.{off-nr}
+use Rattle.sched.proofs.Fresh.{fresh-tables, fresh-vcpu, fresh-sound}
+use Rattle.moves.specs.Scan.{nobody}
 use Rattle.policy.specs.declared.Account.{Account}
 use Rattle.policy.specs.declared.Scheduler.{Scheduler}
-use Rattle.policy.specs.Accounts.{blankAccount, plain, covers, accountAt, accountOf, offsetOf, wasSchedulable, freshPolicy}
+use Rattle.policy.specs.Accounts.{blankAccount, plain, covers, accountAt, accountOf, freshPolicy}
 use Rattle.policy.specs.Accounting.{schedulable}
-use Rattle.policy.specs.AccountLaws.{covers-below}
-use Rattle.sched.specs.Runtime.{runtimeAt}
+use Rattle.policy.proofs.AccountLaws.{covers-below}
+use Rattle.sched.specs.Keeps.{runtimeAt}
 use Rattle.policy.specs.Standing.{weightAt, inFlight, flight}
-use Rattle.advance.specs.Exact.{rawService}
-use Rattle.advance.specs.Lag.{Lag, raw-waiting}
-use Rattle.advance.specs.LagMoves.{Plain}
-use Rattle.advance.specs.Settles.{trace-few, trace-keeps, rest-quiet}
+use Rattle.advance.proofs.Exact.{rawService}
+use Rattle.advance.proofs.Lag.{Lag, raw-waiting}
+use Rattle.advance.proofs.Settles.{trace-few, rest-quiet}
 use Rattle.host.specs.declared.Host.{Host}
 use Rattle.host.specs.declared.Call.{Call}
 use Rattle.host.specs.Step.{step, after, freshHost}
-use Rattle.host.specs.Book.{Line, Book, Shape, blank, holder, occupantBy, enter}
-use Rattle.host.specs.Agreement.{Says, Shaped, Lines, Agrees, agrees, holder-agrees}
-use Rattle.host.specs.Keeping.{InStep}
+use Rattle.host.specs.Book.{Book, Shape, blank, holder, occupantBy, enter}
+use Rattle.host.specs.Agreement.{Says, Agrees}
+use Rattle.host.proofs.Holders.{agrees}
 use Rattle.host.specs.Lists.{bookAfter, openPart, bookService}
-use Rattle.host.specs.Along.{Kept, step-goes, Advanced, advance-rests-here, accounted-slice, weighed-slice, boosted-slice}
-use Rattle.host.specs.Young.{Young, New}
-use Rattle.host.specs.Pooling.{Pooling}
-use Rattle.host.specs.PoolAlong.{Prepared}
+use Rattle.host.proofs.Along.{Kept, step-goes, advance-rests-here, accounted-slice, weighed-slice, boosted-slice}
+use Rattle.host.proofs.Young.{New}
+use Rattle.host.proofs.Pooling.{Pooling}
+use Rattle.host.proofs.PoolAlong.{Prepared}
 
 -- ---- a fresh host
 

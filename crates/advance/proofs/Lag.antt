@@ -1,24 +1,25 @@
 -- How far one vCPU of the pool can be ahead of one that waits, and what keeps it so. Assumes nothing.
-use Prim.Native.Nat.{ℕ, suc, _+_, _-_, _*_, _^_, _≤_, _<_, min}
-use mathlib.Core.Bool.{Bool, true, false}
+use Prim.Native.Nat.{ℕ, _+_, _-_, _*_, _^_, _≤_, _<_, min}
+use mathlib.Core.Bool.{true}
 use mathlib.Core.Path.{_≡_, refl, sym, _∙_, ap, subst}
 use mathlib.Core.Logic.{_≢_}
 use native.Mathlib.Omega.{arith}
 use native.Mathlib.Decide.{ℕ-discrete}
 use Rattle.system.specs.declared.RunState.{RunState}
-use Rattle.system.specs.declared.RunState.the-variants.{Offline, Runnable, Running, Blocked}
+use Rattle.system.specs.declared.RunState.the-variants.{Runnable, Running}
 use Rattle.system.specs.declared.VirtualCpu.{VirtualCpu}
 use Rattle.system.specs.declared.Occupant.{Occupant}
-use Rattle.system.specs.declared.Occupant.the-variants.{Idle, Vcpu}
+use Rattle.system.specs.declared.Occupant.the-variants.{Idle}
 use Rattle.system.specs.declared.System.{System}
 use Rattle.system.specs.Reads.{pcpus, vcpuAt}
 use Rattle.system.specs.Writes.{Wrote}
 use Rattle.verdict.specs.Sound.{Present}
 use Rattle.sched.specs.Records.{elapsed, dispatched, left}
-use Rattle.sched.specs.Legal.{stateAt, admits, CanRun, present-back, same-pcpus}
+use Rattle.sched.proofs.Legal.{present-back, same-pcpus}
+use Rattle.sched.specs.CanRun.{stateAt, admits, CanRun}
 use Rattle.policy.specs.Standing.{inFlight, flight}
 use Rattle.policy.specs.Accounting.{schedulable}
-use Rattle.advance.specs.Exact.{rawService}
+use Rattle.advance.proofs.Exact.{rawService}
 use Rattle.advance.specs.Cross.{lag-trans, base-trans}
 
 -- in the pool: waiting or running

@@ -1,8 +1,8 @@
 -- One move of the settling loop: what it writes, and why the loop goes on as the definition does. Assumes nothing.
-use Prim.Native.Nat.{ℕ, zero, suc, _+_, _-_, _*_, _/_, _%_, _^_, _<_, _≤_, min}
+use Prim.Native.Nat.{ℕ, zero, suc, _+_, _-_, _/_, _%_, _^_, _<_, _≤_, min}
 use mathlib.Core.Bool.{Bool, true, false, cond, not, _&&_, false≢true}
 use mathlib.Core.Path.{_≡_, refl, sym, _∙_, ap, ap₂, subst}
-use mathlib.Core.List.{List, [], _∷_}
+use mathlib.Core.List.{List}
 use native.Mathlib.Decide.{ℕ-discrete}
 use native.Mathlib.Omega.{arith}
 use lib.Dec.{ltb}
@@ -11,77 +11,32 @@ use lib.Seq.{getD-set-same}
 use borrow.Author.Tests.{lt-ltb}
 use Rattle.masks.specs.Masks.{pcpuBit}
 use Rattle.masks.specs.Sets.{setOf, setOf-below, setOf-change}
-use Rattle.system.specs.declared.RunState.{RunState}
-use Rattle.system.specs.declared.RunState.the-variants.{Runnable, Running}
 use Rattle.system.specs.declared.VirtualCpu.{VirtualCpu}
 use Rattle.system.specs.declared.Occupant.{Occupant}
-use Rattle.system.specs.declared.Occupant.the-variants.{Idle, Vcpu}
+use Rattle.system.specs.declared.Occupant.the-variants.{Vcpu}
 use Rattle.system.specs.declared.System.{System}
 use Rattle.system.specs.Answers.{Outcome}
-use Rattle.system.specs.Reads.{vcpus, pcpus, vcpuAt, occupantAt, isIdle}
+use Rattle.system.specs.Reads.{vcpus, pcpus, vcpuAt, isIdle}
 use Rattle.system.specs.Writes.{putVcpu, putOccupant, Tables, Wrote, wrote-both}
 use Rattle.verdict.specs.Sound.{Present, Sound}
 use Rattle.sched.specs.Records.{dispatched, left}
-use Rattle.sched.specs.Legal.{slot-below}
-use Rattle.sched.specs.Kept.{Keeps}
+use Rattle.sched.proofs.Legal.{slot-below}
+use Rattle.sched.specs.Keeps.{Keeps}
 use Rattle.moves.specs.declared.Choice.{Choice}
 use Rattle.moves.specs.declared.Choice.the-variants.{Run, Preempt, Rest}
 use Rattle.service.specs.Service.{value, held}
 use Rattle.policy.specs.declared.Scheduler.{Scheduler}
 use Rattle.policy.specs.Accounts.{offsetOf}
 use Rattle.policy.specs.Standing.{present, inFlight}
-use Rattle.advance.specs.declared.Decision.{Decision}
 use Rattle.advance.specs.declared.Decision.the-variants as decision
 use Rattle.advance.specs.Choices.{choice}
 use Rattle.advance.specs.Advance.{named, enacted, Settled, goOn, settle}
 use Rattle.advance.specs.ChoiceLaws.{choice-run, choice-preempt}
-use Rattle.advance.specs.Enacted.{run-enacted, run-keeps, preempt-enacted, preempt-keeps}
-use Rattle.advance.specs.Stores.{setRow, row-here}
-use Rattle.advance.specs.Rows.{kindOf, Row, Rows, idleAt, idleSet, service-stored, row-kept}
-
--- ---- what a choice moves
-
-abbrev pub isRest : Choice → Bool
-isRest (Run i p) = false
-isRest (Preempt i p) = false
-isRest Rest = true
-
-abbrev pub slotIn : Choice → ℕ
-slotIn (Run i p) = i
-slotIn (Preempt i p) = i
-slotIn Rest = 0
-
-abbrev pub ontoIn : Choice → ℕ
-ontoIn (Run i p) = p
-ontoIn (Preempt i p) = p
-ontoIn Rest = 0
-
-abbrev pub recordAfter : Choice → VirtualCpu → ℕ → VirtualCpu
-recordAfter (Run i p) v now = dispatched v p now
-recordAfter (Preempt i p) v now = left v Runnable now
-recordAfter Rest v now = v
-
-abbrev pub occupantAfter : Choice → Occupant
-occupantAfter (Run i p) = Vcpu (i / 8 % 16) (i % 8)
-occupantAfter (Preempt i p) = Idle
-occupantAfter Rest = Idle
-
--- a choice by the vCPU's ids, as the code has it
-abbrev pub namedAs : Choice → Decision
-namedAs (Run i p) = decision.Run (i / 8 % 16) (i % 8) p
-namedAs (Preempt i p) = decision.Preempt (i / 8 % 16) (i % 8) p
-namedAs Rest = decision.Idle
-
--- the bit that leaves the idle set, and the one that joins it
-abbrev pub cleared : Choice → ℕ
-cleared (Run i p) = pcpuBit p
-cleared (Preempt i p) = 0
-cleared Rest = 0
-
-abbrev pub freed : Choice → ℕ
-freed (Run i p) = 0
-freed (Preempt i p) = pcpuBit p
-freed Rest = 0
+use Rattle.advance.proofs.Enacted.{run-enacted, run-keeps, preempt-enacted, preempt-keeps}
+use Rattle.advance.proofs.Stores.{setRow, row-here}
+use Rattle.advance.proofs.Rows.{service-stored, row-kept}
+use Rattle.advance.specs.Loops.{kindOf, Row, Rows, idleAt, idleSet}
+use Rattle.advance.specs.Loops.{isRest, slotIn, ontoIn, recordAfter, occupantAfter, namedAs, cleared, freed, Settles}
 
 -- the system after a choice
 abbrev pub moved : System → ℕ → Choice → System
@@ -196,11 +151,6 @@ module _ {s : System} {now : ℕ} (T : Tables s) where
       go Rest r m = absurd (false≢true (sym r))
 
 -- ---- settling follows
-
--- t and m are what settling gives
-pub record Settles (π : Scheduler) (now k : ℕ) (s t : System) (m : ℕ) : Type 0 where
-  pub system : t ≡ (settle π now k s) .system
-  pub count : m ≡ length ((settle π now k s) .moves)
 
 -- from s with k moves left it goes as from s′ with k′ left, n moves later
 pub record Onward (π : Scheduler) (now k : ℕ) (s : System) (k′ : ℕ) (s′ : System) (n : ℕ) : Type 0 where

@@ -1,24 +1,25 @@
 -- An advance makes at most two moves a pCPU and ends where no move is left, so that nobody waits beside an idle pCPU that its
 -- mask admits. Assumes nothing.
 use Prim.Native.Nat.{ℕ, zero, suc, _+_, _*_, _≤_, _<_}
-use mathlib.Core.Path.{_≡_, refl, sym, _∙_, ap, subst}
+use mathlib.Core.Path.{_≡_, refl}
 use mathlib.Core.List.{List, [], _∷_}
 use native.Mathlib.Omega.{arith}
 use lib.ListN.{length}
 use Rattle.system.specs.declared.System.{System}
-use Rattle.system.specs.Reads.{domains, vcpus, pcpus}
+use Rattle.system.specs.Reads.{pcpus}
 use Rattle.system.specs.Writes.{Tables}
 use Rattle.verdict.specs.Sound.{Sound}
-use Rattle.sched.specs.Legal.{CanRun}
-use Rattle.sched.specs.Kept.{Keeps, unchanged, and-then}
+use Rattle.sched.specs.CanRun.{CanRun}
+use Rattle.sched.proofs.Kept.{unchanged, and-then}
+use Rattle.sched.specs.Keeps.{Keeps}
 use Rattle.moves.specs.declared.Choice.{Choice}
 use Rattle.moves.specs.declared.Choice.the-variants.{Run, Preempt, Rest}
 use Rattle.policy.specs.declared.Scheduler.{Scheduler}
 use Rattle.advance.specs.Choices.{choice}
-use Rattle.advance.specs.Advance.{enacted, Settled, goOn, settle, limit}
+use Rattle.advance.specs.Advance.{enacted, goOn, settle, limit}
 use Rattle.advance.specs.ChoiceLaws.{CanPreempt, choice-run, choice-complete, choice-preempt}
-use Rattle.advance.specs.Enacted.{run-keeps, preempt-keeps}
-use Rattle.advance.specs.Heat.{heats, heats-le, run-heats, preempt-heats}
+use Rattle.advance.proofs.Enacted.{run-keeps, preempt-keeps}
+use Rattle.advance.proofs.Heat.{heats, heats-le, run-heats, preempt-heats}
 
 -- Moves made one after another, each the choice where it is made and each one that may be made.
 pub data Trace (π : Scheduler) (now : ℕ) : System → List Choice → System → Type 0 where

@@ -1,5 +1,5 @@
 -- What each call of a pool list keeps: the lag is bounded up to g after the latest advance. Assumes nothing.
-use Prim.Native.Nat.{ℕ, suc, _+_, _-_, _*_, _/_, _%_, _^_, _≤_, _<_, max}
+use Prim.Native.Nat.{ℕ, _+_, _-_, _/_, _%_, _^_, _≤_, _<_, max}
 use mathlib.Core.Bool.{Bool, true, false, false≢true}
 use mathlib.Core.Path.{_≡_, refl, sym, _∙_, ap, subst}
 use mathlib.Core.Logic.{_⊎_, inl, inr}
@@ -8,27 +8,26 @@ use native.Mathlib.Omega.{arith}
 use Rattle.service.specs.Service.{value}
 use Rattle.system.specs.declared.VirtualCpu.{VirtualCpu}
 use Rattle.system.specs.declared.System.{System}
-use Rattle.system.specs.Reads.{vcpuAt}
-use Rattle.system.specs.Writes.{Tables, SameShape}
+use Rattle.system.specs.Writes.{Tables}
 use Rattle.verdict.specs.Sound.{Present, Sound}
-use Rattle.sched.specs.Legal.{stateAt, present-back}
-use Rattle.sched.specs.Runtime.{runtimeAt}
-use Rattle.sched.specs.Kept.{Keeps}
+use Rattle.sched.proofs.Legal.{present-back}
+use Rattle.sched.specs.Keeps.{runtimeAt}
+use Rattle.sched.specs.Keeps.{Keeps}
 use Rattle.moves.specs.declared.Choice.{Choice}
 use Rattle.moves.specs.declared.Choice.the-variants.{Rest}
 use Rattle.moves.specs.Scan.{Pick, nobody, at}
 use Rattle.policy.specs.declared.Account.{Account}
 use Rattle.policy.specs.declared.Scheduler.{Scheduler}
-use Rattle.policy.specs.Accounts.{covers, accountOf, wasSchedulable, setWeight, setWakeBoost, unboosted}
+use Rattle.policy.specs.Accounts.{covers, accountOf, wasSchedulable, setWakeBoost, unboosted}
 use Rattle.policy.specs.Standing.{slots, present, weightAt}
 use Rattle.advance.specs.Choices.{choice}
 use Rattle.policy.specs.Accounting.{schedulable, pooled, floor, accounted}
-use Rattle.policy.specs.AccountLaws.{Tabled, renew-same, accounted-weight, accounted-snapshot, accounted-offset, floor-stayed, Weighed, set-weighed, set-weight-tabled, cleared, cleared-tabled}
+use Rattle.policy.proofs.AccountLaws.{Tabled, renew-same, accounted-weight, accounted-snapshot, accounted-offset, floor-stayed, cleared, cleared-tabled}
 use Rattle.advance.specs.ChoiceLaws.{is-present, present-is}
-use Rattle.advance.specs.Settles.{Trace, trace-keeps}
-use Rattle.advance.specs.Lag.{Pool, Lag}
-use Rattle.advance.specs.LagMoves.{Plain, trace-lag, rest-lag, trace-pooled}
-use Rattle.host.specs.Shrinks.{Shrinks, shrinks-lag}
+use Rattle.advance.proofs.Settles.{Trace, trace-keeps}
+use Rattle.advance.proofs.Lag.{Lag}
+use Rattle.advance.proofs.LagMoves.{Plain, trace-lag, rest-lag, trace-pooled}
+use Rattle.host.proofs.Shrinks.{Shrinks, shrinks-lag}
 
 -- run times are words
 abbrev pub Words : System → Type 0

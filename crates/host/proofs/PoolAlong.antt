@@ -1,6 +1,6 @@
 -- Along a pool list the lag is bounded at every point after the first advance. Assumes nothing.
-use Prim.Native.Nat.{ℕ, _+_, _-_, _*_, _/_, _%_, _^_, _≤_, _<_, max}
-use mathlib.Core.Bool.{Bool, true, false}
+use Prim.Native.Nat.{ℕ, _+_, _-_, _/_, _%_, _^_, _≤_, _<_, max}
+use mathlib.Core.Bool.{Bool, false}
 use mathlib.Core.Path.{_≡_, refl, sym, _∙_, ap, subst}
 use mathlib.Core.Logic.{_⊎_, inl, inr}
 use mathlib.Core.List.{List, [], _∷_, _++_}
@@ -9,23 +9,24 @@ use Rattle.service.specs.Service.{value}
 use Rattle.system.specs.declared.System.{System}
 use Rattle.system.specs.Answers.{Outcome}
 use Rattle.sched.specs.Answered.{Answered, requested-answered, run-answered, offline-all-answered}
-use Rattle.sched.specs.Kept.{Keeps, requested-keeps, offline-all-keeps}
+use Rattle.sched.proofs.Kept.{requested-keeps, offline-all-keeps}
+use Rattle.sched.specs.Keeps.{Keeps}
 use Rattle.policy.specs.declared.Account.{Account}
 use Rattle.policy.specs.declared.Scheduler.{Scheduler}
 use Rattle.policy.specs.Accounts.{wasSchedulable, accountOf, setWeight, setWakeBoost, unboosted}
 use Rattle.policy.specs.Standing.{weightAt}
-use Rattle.policy.specs.AccountLaws.{Tabled, Weighed, set-weighed, set-weight-tabled, cleared, cleared-tabled}
-use Rattle.advance.specs.LagMoves.{Plain}
+use Rattle.policy.proofs.AccountLaws.{Tabled, Weighed, set-weighed, set-weight-tabled, cleared, cleared-tabled}
+use Rattle.advance.proofs.LagMoves.{Plain}
 use Rattle.host.specs.declared.Host.{Host}
 use Rattle.host.specs.declared.Call.{Call}
-use Rattle.host.specs.Step.{Step, step, bySystem, after}
-use Rattle.host.specs.Book.{Book, Shape, enter}
+use Rattle.host.specs.Step.{step, bySystem, after}
+use Rattle.host.specs.Book.{Book, Shape}
 use Rattle.host.specs.Lists.{Fits, AllFit, Prepares, Departs, PoolRest, PoolList, Latest, orEarlier, clockOf, latest}
 use Rattle.host.specs.Lists as lists
-use Rattle.host.specs.Along.{Kept, Goes, step-goes, Advanced, advance-rests-here}
-use Rattle.host.specs.Shrinks.{block-shrinks, offline-shrinks, offline-all-shrinks}
-use Rattle.host.specs.Young.{Young, admit-young, block-young, wake-young, offline-young, offline-all-young, young-lag}
-use Rattle.host.specs.Pooling.{Words, slack, Pooling, first-advance, next-advance, departure, boosted}
+use Rattle.host.proofs.Along.{Kept, step-goes, advance-rests-here}
+use Rattle.host.proofs.Shrinks.{block-shrinks, offline-shrinks, offline-all-shrinks}
+use Rattle.host.proofs.Young.{Young, admit-young, block-young, wake-young, offline-young, offline-all-young, young-lag}
+use Rattle.host.proofs.Pooling.{Words, slack, Pooling, first-advance, next-advance, departure, boosted}
 
 -- ---- a refused call leaves the host as it was
 

@@ -16,8 +16,8 @@ use Rattle.verdict.specs.Sound.{Present, Sound}
 use Rattle.sched.specs.declared.Request.{Request}
 use Rattle.sched.specs.declared.Change.the-variants.{Refuse, Write, Move}
 use Rattle.sched.specs.Records.{withMask, dispatched, left}
-use Rattle.sched.specs.Steps.{admitted, preempted, blocked, woken, masked, offlined, ran, changed, run}
-use Rattle.sched.specs.Legal.{NotRunning, StaysPut, Legal, stays, keeps, goes-on, comes-off}
+use Rattle.sched.specs.Steps.{admitted, preempted, blocked, woken, masked, offlined, ran, changed}
+use Rattle.sched.proofs.Legal.{NotRunning, StaysPut, Legal, stays, keeps, goes-on, comes-off}
 
 pub off-nr : NotRunning Offline
 off-nr q e = let z : _≡_ {A = ℕ} 0 1 = cc in omega arith

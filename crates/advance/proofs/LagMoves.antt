@@ -1,7 +1,7 @@
 -- Through an advance, and for a while after it, nobody of the pool gets further ahead of one that waits. Assumes nothing.
 use Prim.Native.Nat.{ℕ, suc, _+_, _-_, _*_, _/_, _%_, _^_, _≤_, _<_}
 use mathlib.Core.Bool.{Bool, true, false, false≢true}
-use mathlib.Core.Path.{_≡_, refl, sym, _∙_, ap, subst}
+use mathlib.Core.Path.{_≡_, refl, sym, _∙_, ap}
 use mathlib.Core.List.{List}
 use native.Mathlib.Omega.{arith}
 use native.Mathlib.Nat.{mul-le-mul-right}
@@ -17,23 +17,22 @@ use Rattle.system.specs.declared.Occupant.{Occupant}
 use Rattle.system.specs.Writes.{Tables, Wrote}
 use Rattle.verdict.specs.Sound.{Present, Sound}
 use Rattle.sched.specs.Records.{elapsed, dispatched, left}
-use Rattle.sched.specs.Legal.{stateAt, CanRun}
-use Rattle.sched.specs.Runtime.{runtimeAt}
-use Rattle.sched.specs.Kept.{Keeps}
+use Rattle.sched.specs.CanRun.{stateAt, CanRun}
+use Rattle.sched.specs.Keeps.{runtimeAt}
 use Rattle.moves.specs.declared.Choice.{Choice}
 use Rattle.moves.specs.declared.Choice.the-variants.{Run, Preempt, Rest}
 use Rattle.policy.specs.declared.Scheduler.{Scheduler}
 use Rattle.policy.specs.Accounts.{offsetOf}
-use Rattle.policy.specs.Standing.{slots, weightAt, deserves, inFlight, flight}
+use Rattle.policy.specs.Standing.{slots, weightAt, inFlight, flight}
 use Rattle.advance.specs.Choices.{choice}
 use Rattle.policy.specs.Accounting.{schedulable, pooled}
 use Rattle.advance.specs.Advance.{enacted}
 use Rattle.advance.specs.ChoiceLaws.{CanPreempt, choice-least, choice-beaten, choice-unbeaten}
-use Rattle.advance.specs.Enacted.{run-wrote, run-keeps, preempt-wrote, preempt-keeps}
-use Rattle.advance.specs.Settles.{Trace, rest, run, preempt}
+use Rattle.advance.proofs.Enacted.{run-wrote, run-keeps, preempt-wrote, preempt-keeps}
+use Rattle.advance.proofs.Settles.{Trace, rest, run, preempt}
 use Rattle.advance.specs.Least.{weight-pos}
-use Rattle.advance.specs.Exact.{rawService, Level, level-ranks, deserves-before, deserves-not}
-use Rattle.advance.specs.Lag.{Pool, waits, runs, Lag, raw-waiting, raw-running, on-lag, off-lag}
+use Rattle.advance.proofs.Exact.{rawService, Level, level-ranks, deserves-before, deserves-not}
+use Rattle.advance.proofs.Lag.{Pool, waits, runs, Lag, raw-waiting, raw-running, on-lag, off-lag}
 
 -- no offset is set, and weights are those of 32 bits
 pub record Plain (π : Scheduler) : Type 0 where

@@ -1,11 +1,10 @@
 -- A host before its first advance: nobody has run, masks are full, no offset and no snapshot is set. Assumes nothing.
-use Prim.Native.Nat.{ℕ, zero, suc, _+_, _*_, _/_, _%_, _^_, _≤_, _<_, min, max}
-use mathlib.Core.Bool.{Bool, true, false, cond, false≢true}
+use Prim.Native.Nat.{ℕ, zero, suc, _+_, _*_, _≤_, _<_}
+use mathlib.Core.Bool.{false≢true}
 use mathlib.Core.Path.{_≡_, refl, sym, _∙_, ap, subst}
-use mathlib.Core.Logic.{_≢_, _⊎_, inl, inr}
+use mathlib.Core.Logic.{_≢_}
 use native.Mathlib.Omega.{arith}
 use native.Mathlib.Decide.{ℕ-discrete}
-use lib.Dec.{lit<}
 use Rattle.masks.specs.Masks.{fullMask}
 use Rattle.masks.specs.Laws.{full-permits}
 use Rattle.system.specs.declared.RunState.{RunState}
@@ -14,19 +13,20 @@ use Rattle.system.specs.declared.VirtualCpu.{VirtualCpu}
 use Rattle.system.specs.declared.Occupant.{Occupant}
 use Rattle.system.specs.declared.System.{System}
 use Rattle.system.specs.Reads.{domains, vcpus, pcpus, slot, vcpuAt, fullAffinity}
-use Rattle.system.specs.Writes.{Tables, SameShape, Wrote, wrote-vcpu, wrote-both}
+use Rattle.system.specs.Writes.{Tables, Wrote, wrote-vcpu}
 use Rattle.verdict.specs.Sound.{Present, Sound}
 use Rattle.sched.specs.declared.Request.{Request}
 use Rattle.sched.specs.declared.Change.{Change}
 use Rattle.sched.specs.declared.Change.the-variants.{Refuse, Write, Move}
 use Rattle.sched.specs.Steps.{admitted, blocked, woken, offlined, changed, applied, requested, offlineFirst, offlineAll}
-use Rattle.sched.specs.Legal.{stateAt, NotRunning, slot-below, present-back, present-on}
-use Rattle.sched.specs.Requests.{off-nr, ready-nr, blocked-nr}
-use Rattle.sched.specs.Cases.{requested-case, offline-all-case}
-use Rattle.sched.specs.Kept.{first-keeps}
+use Rattle.sched.proofs.Legal.{NotRunning, slot-below, present-back, present-on}
+use Rattle.sched.specs.CanRun.{stateAt}
+use Rattle.sched.proofs.Requests.{off-nr, ready-nr, blocked-nr}
+use Rattle.sched.proofs.Cases.{requested-case, offline-all-case}
+use Rattle.sched.proofs.Kept.{first-keeps}
 use Rattle.policy.specs.Accounting.{schedulable}
-use Rattle.advance.specs.Exact.{rawService}
-use Rattle.advance.specs.Lag.{Pool, waits, Lag, raw-waiting}
+use Rattle.advance.proofs.Exact.{rawService}
+use Rattle.advance.proofs.Lag.{Pool, Lag, raw-waiting}
 
 -- a record that has not run, on a host whose full mask is given
 pub record New (full : ℕ) (v : VirtualCpu) : Type 0 where

@@ -1,12 +1,12 @@
 -- Stores into the table of standings: what stands in a slot's row after them. Assumes nothing.
-use Prim.Native.Nat.{ℕ, _+_, _*_, _/_, _%_, _<_}
-use mathlib.Core.Path.{_≡_, refl, sym, _∙_, ap, ap₂}
+use Prim.Native.Nat.{ℕ, _+_, _*_, _/_, _<_}
+use mathlib.Core.Path.{_≡_, refl, _∙_}
 use mathlib.Core.Logic.{_≢_}
 use mathlib.Core.List.{List, [], _∷_}
 use native.Mathlib.Omega.{arith}
 use lib.ListN.{length, getD, set, length-set}
 use lib.Seq.{getD-set-same, getD-set-other}
-use Rattle.service.specs.Service.{value, limbs, held}
+use Rattle.service.specs.Service.{limbs, held}
 use Rattle.moves.specs.Table.{rowAt}
 
 -- the four limbs of r stored as slot i's

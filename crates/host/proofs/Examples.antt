@@ -1,26 +1,22 @@
 -- One list of each kind that meets all hypotheses of demand 3, with its moves and figures: the theorem is not empty.
 -- Assumes nothing.
-use Prim.Native.Nat.{ℕ, _+_, _-_, _*_, _^_, _≤_, _<_}
-use mathlib.Core.Bool.{Bool, true, false}
+use Prim.Native.Nat.{ℕ, _+_, _-_, _*_, _≤_}
 use mathlib.Core.Path.{_≡_, refl}
-use mathlib.Core.List.{List, [], _∷_, map, _++_}
+use mathlib.Core.List.{List, [], _∷_, map}
 use native.Mathlib.Omega.{arith}
 use Rattle.masks.specs.Masks.{first}
 use Rattle.service.specs.Service.{value, limbs, held, moreDeserving}
-use Rattle.system.specs.declared.RunState.{RunState}
-use Rattle.system.specs.declared.RunState.the-variants.{Runnable, Running}
 use Rattle.system.specs.Reads.{vcpuAt, occupantAt}
 use Rattle.system.specs.Shape.{fresh}
 use Rattle.system.specs.Writes.{putVcpu, putOccupant}
 use Rattle.verdict.specs.Violations.{slotViolation, pcpuViolation, earliest, firstViolation, invariantsHold}
 use Rattle.sched.specs.Records.{dispatched, left}
 use Rattle.sched.specs.Steps.{applied, requested, run, offlineFirst, offlineAll}
-use Rattle.moves.specs.declared.Choice.{Choice}
-use Rattle.moves.specs.declared.Choice.the-variants.{Run, Preempt, Rest}
+use Rattle.moves.specs.declared.Choice.the-variants.{Run, Preempt}
 use Rattle.moves.specs.Scan.{scan}
 use Rattle.moves.specs.Decide.{decide, chosen, victim, placement, placeable, beaten, loses}
 use Rattle.policy.specs.Accounts.{accountAt, accountOf, putAccount, freshPolicy, setWeight, setWakeBoost}
-use Rattle.policy.specs.Standing.{weightAt, inFlight, serviceAt, deserves}
+use Rattle.policy.specs.Standing.{inFlight, serviceAt, deserves}
 use Rattle.policy.specs.Accounting.{floor, renewed, renewFirst, accounted}
 use Rattle.advance.specs.Choices.{standings, choice}
 use Rattle.advance.specs.Advance.{enacted, settle}
@@ -28,10 +24,11 @@ use Rattle.advance.specs.Advance as policy
 use Rattle.host.specs.declared.Host.{Host}
 use Rattle.host.specs.declared.Call.{Call}
 use Rattle.host.specs.Step.{Step, step, after, freshHost}
-use Rattle.host.specs.Book.{Book, Shape, blank, enter, movedAll, holder, offlineLines}
-use Rattle.host.specs.Lists.{AllFit, bookAfter, PoolList, PoolRest, Prepares, Departs, latest, bookService}
+use Rattle.host.specs.Book.{Book, Shape, blank, enter, movedAll}
+use Rattle.host.specs.Lists.{AllFit, bookAfter, PoolList, PoolRest, latest, bookService}
 use Rattle.host.specs.Lists as lists
-use Rattle.host.specs.Demand3.{Demand-3, Exists, demand-3}
+use Rattle.host.specs.Demand3.{Demand-3}
+use Rattle.host.proofs.Demand3.{demand-3}
 
 -- ---- any list: two vCPUs on one pCPU, slice 10, then a dispatch that is refused
 

@@ -1,7 +1,7 @@
 -- What the settling loop keeps: the table and the idle set follow the system, and what is left to do is what the definition has
 -- left. Assumes nothing.
-use Prim.Native.Nat.{ℕ, zero, suc, _+_, _-_, _*_, _/_, _%_, _<_, _≤_, min}
-use mathlib.Core.Bool.{Bool, true, false}
+use Prim.Native.Nat.{ℕ, suc, _+_, _-_, _*_, _/_, _%_, _<_, _≤_, min}
+use mathlib.Core.Bool.{true, false}
 use mathlib.Core.Path.{_≡_, refl, sym, _∙_, ap, ap₂, subst}
 use mathlib.Core.List.{List}
 use native.Mathlib.Nat.{sub-zero}
@@ -14,7 +14,6 @@ use Rattle.system.specs.declared.System.{System}
 use Rattle.system.specs.Reads.{domains, vcpuAt}
 use Rattle.system.specs.Writes.{putVcpu, putOccupant, Tables}
 use Rattle.verdict.specs.Sound.{Sound}
-use Rattle.sched.specs.Kept.{Keeps, unchanged}
 use Rattle.moves.specs.declared.Choice.{Choice}
 use Rattle.moves.specs.declared.Choice.the-variants.{Rest}
 use Rattle.moves.specs.Decide.{decide}
@@ -24,10 +23,13 @@ use Rattle.policy.specs.Accounts.{offsetOf}
 use Rattle.policy.specs.Standing.{slots, inFlight}
 use Rattle.advance.specs.Choices.{choice}
 use Rattle.advance.specs.Advance.{limit}
-use Rattle.advance.specs.Stores.{setRow, row-length}
-use Rattle.advance.specs.Rows.{kindOf, Rows, Tabulates, idleSet, decides-choice}
-use Rattle.advance.specs.Moves.{isRest, slotIn, ontoIn, recordAfter, occupantAfter, cleared, freed, moved, Moves, choice-moves, Shifts, idle-shifts}
-use Rattle.advance.specs.Moves.{Settles, Onward, onward-start, onward-more, onward-rest, onward-out, rows-moved}
+use Rattle.advance.proofs.Stores.{setRow, row-length}
+use Rattle.advance.proofs.Rows.{decides-choice}
+use Rattle.advance.specs.Loops.{kindOf, Rows, Tabulates, idleSet}
+use Rattle.advance.proofs.Moves.{moved, Moves, choice-moves, Shifts, idle-shifts}
+use Rattle.advance.specs.Loops.{isRest, slotIn, ontoIn, recordAfter, occupantAfter, cleared, freed}
+use Rattle.advance.proofs.Moves.{Onward, onward-start, onward-more, onward-rest, onward-out, rows-moved}
+use Rattle.advance.specs.Loops.{Settles}
 
 -- after n moves from s₀ the system is s
 pub record Going (π : Scheduler) (now : ℕ) (s₀ : System) (k m t w : List ℕ) (idle : ℕ) (s : System) (n : ℕ) : Type 0 where

@@ -1,10 +1,9 @@
 -- No proposed move is refused; what it leaves is sound. Assumes nothing.
-use Prim.Native.Nat.{ℕ, _/_, _%_, _<_}
-use mathlib.Core.Bool.{true}
+use Prim.Native.Nat.{ℕ, _/_, _%_}
 use mathlib.Core.Path.{_≡_, refl, sym, ap, subst}
 use native.Mathlib.Omega.{arith}
 use Rattle.system.specs.declared.RunState.{RunState}
-use Rattle.system.specs.declared.RunState.the-variants.{Runnable, Running}
+use Rattle.system.specs.declared.RunState.the-variants.{Runnable}
 use Rattle.system.specs.declared.Occupant.the-variants.{Idle, Vcpu}
 use Rattle.system.specs.declared.System.{System}
 use Rattle.system.specs.Reads.{vcpuAt, occupantAt, isIdle}
@@ -12,9 +11,11 @@ use Rattle.system.specs.Writes.{putVcpu, putOccupant, Tables, Wrote, wrote-both
 use Rattle.verdict.specs.Sound.{Sound}
 use Rattle.sched.specs.Records.{dispatched, left}
 use Rattle.sched.specs.Steps.{preempted, ran, applied, done}
-use Rattle.sched.specs.Legal.{stateAt, CanRun, slot-below}
-use Rattle.sched.specs.Requests.{changed-legal, ran-legal}
-use Rattle.sched.specs.Kept.{Keeps, apply-keeps}
+use Rattle.sched.proofs.Legal.{slot-below}
+use Rattle.sched.specs.CanRun.{stateAt, CanRun}
+use Rattle.sched.proofs.Requests.{changed-legal, ran-legal}
+use Rattle.sched.proofs.Kept.{apply-keeps}
+use Rattle.sched.specs.Keeps.{Keeps}
 use Rattle.sched.specs.declared.Request.{Request}
 use Rattle.moves.specs.declared.Choice.the-variants.{Run, Preempt}
 use Rattle.policy.specs.declared.Scheduler.{Scheduler}

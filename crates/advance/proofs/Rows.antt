@@ -1,7 +1,7 @@
 -- The table of standings as the code keeps it, and the set of idle pCPUs: a decision over these is the choice. Assumes nothing.
-use Prim.Native.Nat.{ℕ, _+_, _-_, _*_, _/_, _%_, _^_, _<_, _≤_, min}
+use Prim.Native.Nat.{ℕ, _+_, _-_, _*_, _/_, _%_, _^_, _<_, min}
 use mathlib.Core.Bool.{Bool, true, false, cond, _&&_, false≢true}
-use mathlib.Core.Path.{_≡_, refl, sym, _∙_, ap, ap₂, subst}
+use mathlib.Core.Path.{_≡_, refl, sym, _∙_, ap, ap₂}
 use mathlib.Core.List.{List, [], _∷_}
 use mathlib.Core.Logic.{_≢_}
 use native.Mathlib.Decide.{ℕ-discrete}
@@ -11,61 +11,27 @@ use lib.ListN.{length, getD, set}
 use lib.Seq.{getD-set-same, getD-set-other}
 use borrow.Author.Tests.{lt-ltb, le-leb, ne-eqb}
 use Rattle.masks.specs.Conj.{both}
-use Rattle.masks.specs.Masks.{permits}
-use Rattle.masks.specs.Sets.{setOf, setOf-permits}
-use Rattle.service.specs.Service.{value, held, moreDeserving}
+use Rattle.masks.specs.Sets.{setOf-permits}
+use Rattle.service.specs.Service.{value, held}
 use Rattle.service.specs.Laws.{value-held}
 use Rattle.system.specs.declared.RunState.{RunState}
 use Rattle.system.specs.declared.RunState.the-variants.{Offline, Runnable, Running, Blocked}
 use Rattle.system.specs.declared.VirtualCpu.{VirtualCpu}
 use Rattle.system.specs.declared.System.{System}
-use Rattle.system.specs.Reads.{vcpus, pcpus, vcpuAt, occupantAt, isIdle}
+use Rattle.system.specs.Reads.{vcpus, vcpuAt}
 use Rattle.verdict.specs.Sound.{Present, Sound}
 use Rattle.sched.specs.Records.{elapsed}
-use Rattle.moves.specs.declared.Choice.{Choice}
 use Rattle.moves.specs.Decide.{Standings, decide}
-use Rattle.moves.specs.DecideCong.{Alike, decide-cong}
-use Rattle.moves.specs.Table.{tabled, rowAt}
+use Rattle.moves.proofs.DecideCong.{Alike, decide-cong}
+use Rattle.moves.specs.Table.{tabled}
 use Rattle.policy.specs.declared.Scheduler.{Scheduler}
 use Rattle.policy.specs.Accounts.{offsetOf}
 use Rattle.policy.specs.Standing.{slots, present, inFlight, weightAt, serviceAt, deserves}
 use Rattle.verdict.specs.Violations.{onto}
 use Rattle.advance.specs.Choices.{isRunnable, isExpired, standings, choice}
 use Rattle.advance.specs.ChoiceLaws.{is-present}
-use Rattle.advance.specs.Stores.{setRow, row-there, row-here, limbs-same}
-
--- a slot's kind: 1 for one that waits, p + 2 for one that has held pCPU p for the slice, 0 for any other
-abbrev pub kindIn : ℕ → ℕ → RunState → ℕ
-kindIn q e Offline = 0
-kindIn q e Runnable = 1
-kindIn q e (Running p) = cond (leb q e) (p % 64 + 2) 0
-kindIn q e Blocked = 0
-
-abbrev pub kindOf : Bool → ℕ → ℕ → VirtualCpu → ℕ
-kindOf present q now v = cond present (kindIn q (elapsed v now) (v .state)) 0
-
--- the row of slot i
-pub record Row (s : System) (π : Scheduler) (now : ℕ) (k m t w : List ℕ) (i : ℕ) : Type 0 where
-  pub kind : getD k i 0 ≡ kindOf (present s i) (π .quantum) now (vcpuAt s i)
-  pub mask : getD m i 0 ≡ (vcpuAt s i) .affinity
-  pub service : value (rowAt t i) ≡ serviceAt s π now i
-  pub weight : getD w i 0 ≡ weightAt π i
-
-abbrev pub Rows : System → Scheduler → ℕ → List ℕ → List ℕ → List ℕ → List ℕ → ℕ → Type 0
-Rows s π now kind mask service weight n = (i : ℕ) → i < n → Row s π now kind mask service weight i
-
--- the whole table, with arrays as long as the code's where they are written later
-pub record Tabulates (s : System) (π : Scheduler) (now : ℕ) (k m t w : List ℕ) : Type 0 where
-  pub rows : Rows s π now k m t w (slots s)
-  pub kinds : length k ≡ 128
-  pub services : length t ≡ 512
-
--- whether pCPU p exists and is idle, and the set of those
-abbrev pub idleAt : System → ℕ → Bool
-idleAt s p = ltb p (pcpus s) && isIdle (occupantAt s p)
-
-unfoldable pub idleSet : System → ℕ
-idleSet s = setOf (λ p. idleAt s p) 64
+use Rattle.advance.proofs.Stores.{setRow, row-there, row-here, limbs-same}
+use Rattle.advance.specs.Loops.{kindIn, kindOf, Row, Rows, Tabulates, idleAt, idleSet}
 
 -- ---- a kind tells who waits and who is hot
 

@@ -1,36 +1,30 @@
 -- A departure: whoever is left in the pool is as before. Assumes nothing.
-use Prim.Native.Nat.{ℕ, zero, suc, _*_, _/_, _%_, _≤_, _<_}
-use mathlib.Core.Bool.{Bool, true, false, cond, false≢true}
+use Prim.Native.Nat.{ℕ, zero, suc, _≤_, _<_}
+use mathlib.Core.Bool.{false, false≢true}
 use mathlib.Core.Path.{_≡_, refl, sym, _∙_, ap, subst}
 use mathlib.Core.Logic.{_≢_}
 use native.Mathlib.Omega.{arith}
 use native.Mathlib.Decide.{ℕ-discrete}
-use lib.Dec.{ltb}
-use borrow.Author.Tests.{ltb-true}
 use Rattle.system.specs.declared.RunState.{RunState}
 use Rattle.system.specs.declared.RunState.the-variants.{Offline, Runnable, Running, Blocked}
 use Rattle.system.specs.declared.VirtualCpu.{VirtualCpu}
 use Rattle.system.specs.declared.Occupant.{Occupant}
 use Rattle.system.specs.declared.System.{System}
-use Rattle.system.specs.declared.Answer.{Answer}
-use Rattle.system.specs.Answers.{Outcome}
-use Rattle.system.specs.Reads.{domains, vcpus, pcpus, slot, vcpuAt, fullAffinity, vcpuCount}
+use Rattle.system.specs.Reads.{domains, vcpus, pcpus, slot, vcpuAt, fullAffinity}
 use Rattle.system.specs.Writes.{Tables, SameShape, Wrote, wrote-vcpu, wrote-both}
 use Rattle.verdict.specs.Sound.{Present, Sound}
-use Rattle.verdict.specs.Violations.{invariantsHold}
 use Rattle.sched.specs.declared.Request.{Request}
 use Rattle.sched.specs.declared.Change.{Change}
 use Rattle.sched.specs.declared.Change.the-variants.{Refuse, Write, Move}
 use Rattle.sched.specs.Records.{left}
-use Rattle.sched.specs.Steps.{refused, blocked, offlined, changed, applied, found, requested, offlineFirst, offlineAll}
-use Rattle.sched.specs.Legal.{stateAt, admits, Legal, stays, keeps, goes-on, comes-off, slot-below, present-back, present-on, same-pcpus}
-use Rattle.sched.specs.Cases.{requested-case, offline-all-case}
-use Rattle.sched.specs.Requests.{changed-legal}
-use Rattle.sched.specs.Kept.{Keeps, first-keeps}
+use Rattle.sched.specs.Steps.{blocked, offlined, changed, applied, requested, offlineFirst, offlineAll}
+use Rattle.sched.proofs.Legal.{Legal, stays, keeps, goes-on, comes-off, slot-below, present-back, present-on, same-pcpus}
+use Rattle.sched.specs.CanRun.{stateAt}
+use Rattle.sched.proofs.Cases.{requested-case, offline-all-case}
+use Rattle.sched.proofs.Requests.{changed-legal}
+use Rattle.sched.proofs.Kept.{first-keeps}
 use Rattle.policy.specs.Accounting.{schedulable}
-use Rattle.policy.specs.Standing.{inFlight}
-use Rattle.advance.specs.Exact.{rawService}
-use Rattle.advance.specs.Lag.{Pool, waits, runs, Lag}
+use Rattle.advance.proofs.Lag.{Pool, runs, Lag}
 
 pub record Shrinks (s s′ : System) : Type 0 where
   pub shape : SameShape s s′

@@ -6,20 +6,12 @@ use native.Mathlib.Decide.{ℕ-discrete}
 use Rattle.system.specs.declared.VirtualCpu.{VirtualCpu}
 use Rattle.system.specs.declared.Occupant.{Occupant}
 use Rattle.system.specs.declared.System.{System}
-use Rattle.system.specs.Reads.{vcpuAt}
 use Rattle.system.specs.Writes.{Tables, Wrote, wrote-vcpu, wrote-both}
 use Rattle.verdict.specs.Sound.{Present, Sound}
 use Rattle.sched.specs.declared.Change.{Change}
 use Rattle.sched.specs.Steps.{applied}
-use Rattle.sched.specs.Legal.{Legal, stays, keeps, goes-on, comes-off, slot-below}
-
-abbrev pub runtimeAt : System → ℕ → ℕ
-runtimeAt s i = (vcpuAt s i) .runtime
-
--- no run time of s′ is below that of s, and all are words
-pub record Grows (s s′ : System) : Type 0 where
-  pub time : (j : ℕ) → runtimeAt s j ≤ runtimeAt s′ j
-  pub word : (j : ℕ) → runtimeAt s′ j < 2 ^ 64
+use Rattle.sched.proofs.Legal.{Legal, stays, keeps, goes-on, comes-off, slot-below}
+use Rattle.sched.specs.Keeps.{runtimeAt, Grows}
 
 module _ {s : System} {i : ℕ} (t : Tables s) (S : Sound s) (h : Present s i) (w : (j : ℕ) → runtimeAt s j < 2 ^ 64) where
   wrote-grows : {s′ : System} {v : VirtualCpu} {p : ℕ} {o : Occupant} → Wrote s s′ i v p o → runtimeAt s i ≤ v .runtime → v .runtime < 2 ^ 64 → Grows s s′

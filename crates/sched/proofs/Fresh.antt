@@ -11,7 +11,7 @@ use Rattle.system.specs.Shape.{offline, idle, blank, fresh}
 use Rattle.system.specs.Reads.{vcpuAt, occupantAt, pcpus}
 use Rattle.system.specs.Writes.{Tables}
 use Rattle.verdict.specs.Sound.{Sound}
-use Rattle.sched.specs.Legal.{slot-below}
+use Rattle.sched.proofs.Legal.{slot-below}
 
 pub fresh-tables : (d v p : ℕ) → Tables (fresh d v p)
 unfolding fresh

@@ -1,30 +1,25 @@
 -- What every call keeps: soundness and the shape; run times never fall. Assumes nothing.
-use Prim.Native.Nat.{ℕ, zero, suc, _/_, _%_, _^_, _≤_, _<_}
-use mathlib.Core.Bool.{Bool, true, false, cond}
-use mathlib.Core.Path.{_≡_, refl, _∙_, subst₂}
+use Prim.Native.Nat.{ℕ, zero, suc, _/_, _%_, _≤_, _<_}
+use mathlib.Core.Path.{refl, _∙_, subst₂}
 use native.Mathlib.Nat.{le-trans}
 use native.Mathlib.Omega.{arith}
-use lib.Dec.{ltb}
 use lib.ListN.{length-set}
-use borrow.Author.Tests.{ltb-true}
 use Rattle.system.specs.declared.RunState.the-variants.{Offline}
 use Rattle.system.specs.declared.Occupant.the-variants.{Idle, Vcpu}
 use Rattle.system.specs.declared.System.{System}
-use Rattle.system.specs.declared.Answer.{Answer}
-use Rattle.system.specs.declared.Answer.the-variants.{BadDomain, BadVcpu, BadPcpu, Unsound}
-use Rattle.system.specs.Answers.{Outcome}
 use Rattle.system.specs.Reads.{domains, vcpus, pcpus, slot, vcpuAt, occupantAt, fullAffinity}
 use Rattle.system.specs.Writes.{putVcpu, putOccupant, Tables, SameShape, wrote-vcpu, wrote-both}
 use Rattle.verdict.specs.Sound.{Present, Sound}
-use Rattle.verdict.specs.Violations.{invariantsHold}
 use Rattle.sched.specs.declared.Request.{Request}
 use Rattle.sched.specs.declared.Change.{Change}
 use Rattle.sched.specs.declared.Change.the-variants.{Refuse, Write, Move}
-use Rattle.sched.specs.Steps.{refused, ran, changed, applied, found, requested, run, offlineFirst, offlineAll}
-use Rattle.sched.specs.Runtime.{runtimeAt, Grows, applied-grows}
-use Rattle.sched.specs.Legal.{stateAt, Legal, stays, keeps, goes-on, comes-off, slot-below, slot-domain, slot-vcpu, present-on, sound-on, sound-off, sound-keep}
-use Rattle.sched.specs.Cases.{requested-case, run-case, offline-all-case}
-use Rattle.sched.specs.Requests.{changed-legal, ran-legal}
+use Rattle.sched.specs.Steps.{ran, applied, requested, run, offlineFirst, offlineAll}
+use Rattle.sched.specs.Keeps.{Keeps}
+use Rattle.sched.proofs.Runtime.{applied-grows}
+use Rattle.sched.proofs.Legal.{Legal, stays, keeps, goes-on, comes-off, slot-below, slot-domain, slot-vcpu, present-on, sound-on, sound-off, sound-keep}
+use Rattle.sched.specs.CanRun.{stateAt}
+use Rattle.sched.proofs.Cases.{requested-case, run-case, offline-all-case}
+use Rattle.sched.proofs.Requests.{changed-legal, ran-legal}
 
 -- ---- one change
 
@@ -39,12 +34,6 @@ apply-sound {s} {i} t S h (comes-off {v} {p} now on k) =
     sound-off S h on (wrote-both s i v p Idle t (slot-below h) (omega (arith, o .exists))) (k .rests)
 
 -- ---- every call
-
--- a call leaves the shape as it was and a sound system sound, and no run time falls
-pub record Keeps (s s′ : System) : Type 0 where
-  pub shape : SameShape s s′
-  pub sound : Sound s′
-  pub times : ((j : ℕ) → runtimeAt s j < 2 ^ 64) → Grows s s′
 
 pub unchanged : {s : System} → Sound s → Keeps s s
 unchanged {s} S = record { shape = same-shape s; sound = S; times = λ w. record { time = λ j. omega arith; word = w } }
