@@ -45,8 +45,8 @@ module _ {s : System} {π : Scheduler} {now : ℕ} (L : Level s π now) where
   pub deserves-not : (i j : ℕ) → deserves s π now i j ≡ false → rawService s now j * weightAt π i ≤ rawService s now i * weightAt π j
   deserves-not i j e = ltb-false _ _ (sym (deserves-exact i j) ∙ e)
 
-  pub level-ranks : (n : ℕ) → Ranks (deserves s π now) n
-  level-ranks n =
+  pub level-ranks : {P : ℕ → Type 0} → Ranks P (deserves s π now)
+  level-ranks =
       unheld-ranks
       (record {
         products = λ i j l m.

@@ -22,7 +22,7 @@ use Rattle.policy.specs.declared.Scheduler.{Scheduler}
 use Rattle.policy.specs.Standing.{present}
 use Rattle.advance.specs.Choices.{isExpired, standings}
 use Rattle.advance.specs.Advance.{enacted}
-use Rattle.advance.specs.ChoiceLaws.{CanPreempt, present-is}
+use Rattle.advance.specs.ChoiceLaws.{CanPreempt, present-is, can-hot}
 use Rattle.advance.proofs.Enacted.{run-wrote, preempt-wrote}
 use Rattle.advance.proofs.Sum.{sum, sum-bound, sum-change}
 
@@ -44,11 +44,6 @@ dispatched-cold s π now j p v h e = rw (e, lt-leb (π .quantum) (now - now) (om
     off : (b : Bool) → (b && false) ≡ false
     off true = refl
     off false = refl
-
-preemptible-hot : {s : System} {π : Scheduler} {now i p : ℕ} → CanPreempt s π now i p → hot s π now i ≡ true
-unfolding standings
-preemptible-hot {s} {π} {now} {i} c =
-    rw (present-is (c .present) .1) (ap (isExpired (π .quantum) (elapsed (vcpuAt s i) now)) (c .on) ∙ le-leb _ _ (c .late))
 
 -- ---- the sum
 
@@ -130,7 +125,7 @@ preempt-heats s π now i p t S c = omega (arith, heats-change π now w (o .exist
     alone q d u m n e x = let g = S .held q d u m e in let r = g .on in let y = c .on in n (cc)
 
     before : heat s π now p ≡ 2
-    before = rw (o .back, slot-of i, preemptible-hot c)
+    before = rw (o .back, slot-of i, can-hot s π now i p c)
 
     after : heat s′ π now p ≡ 1
     after = rw (w .onto)

@@ -60,7 +60,7 @@ module _ (π : Scheduler) (P : Plain π) (lim : ℕ) where
   run-lag s now i p fit t tb L c e =
       let l = plain-level P t fit in
       on-lag w (weight-pos π) lim now L c (run-wrote s now i p tb c)
-      (λ j h r. deserves-not l j i (choice-least s π now i p j p (level-ranks l (slots s)) e
+      (λ j h r. deserves-not l j i (choice-least s π now (level-ranks l) i p j p e
       (record { present = h; ready = r; exists = c .exists; free = c .free; affine = L .full j p h (c .exists) (rw r waits) })))
 
   preempt-lag : (s : System) (now i p : ℕ) → now < 2 ^ 64 → ((j : ℕ) → runtimeAt s j < 2 ^ 64) → Tables s → Sound s → Lag w lim s now

@@ -3,6 +3,7 @@ pub mod Limit
 pub mod Lookups
 pub mod Returned
 pub mod Enacted
+pub mod Accepted
 pub mod Exact
 pub mod Going
 pub mod Heat

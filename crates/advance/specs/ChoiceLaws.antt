@@ -1,7 +1,7 @@
--- Laws of the choice on a sound system. What stands above goes by these. Assumes nothing.
+-- Laws of the choice. What stands above goes by these. Assumes nothing.
 use Prim.Native.Nat.{ℕ, _≤_, _<_}
 use mathlib.Core.Bool.{Bool, true, false, false≢true}
-use mathlib.Core.Path.{_≡_, refl, _∙_, ap}
+use mathlib.Core.Path.{_≡_, refl, _∙_, ap, subst}
 use native.Mathlib.Omega.{arith}
 use borrow.Author.Tests.{ltb-true, lt-ltb, leb-true, le-leb}
 use Rattle.masks.specs.Conj.{both, all-two}
@@ -46,56 +46,6 @@ pub record CanPreempt (s : System) (π : Scheduler) (now i p : ℕ) : Type 0 whe
   pub on : stateAt s i ≡ Running p
   pub late : π .quantum ≤ elapsed (vcpuAt s i) now
 
--- who waits and may use an idle pCPU now
-fits-can : (s : System) (π : Scheduler) (now i p : ℕ) → i < slots s → Fits (standings s π now) i p → CanRun s i p
-unfolding standings
-fits-can s π now i p l f =
-    let w = both _ _ (f .waits) in
-    let d = both _ _ (f .idle) in
-    record {
-      present = is-present s i l (w .0);
-      ready = is-runnable _ (w .1);
-      exists = ltb-true _ _ (d .0);
-      free = is-idle _ (d .1);
-      affine = f .admits;
-    }
-
-can-fits : (s : System) (π : Scheduler) (now i p : ℕ) → CanRun s i p → Fits (standings s π now) i p
-unfolding standings
-can-fits s π now i p c =
-    let x = c .exists in
-    record {
-      waits = all-two (present-is (c .present) .1) (ap isRunnable (c .ready));
-      word = omega arith;
-      idle = all-two (lt-ltb p (pcpus s) x) (ap isIdle (c .free));
-      admits = c .affine;
-    }
-
--- a Run is of one that may be dispatched there
-pub choice-run : (s : System) (π : Scheduler) (now i p : ℕ) → choice s π now ≡ Run i p → CanRun s i p
-unfolding choice
-choice-run s π now i p e = let f = run-fits (standings s π now) (slots s) i p e in fits-can s π now i p (f .0) (f .1)
-
--- and there is one if anybody may be dispatched anywhere
-pub choice-complete : (s : System) (π : Scheduler) (now i p : ℕ) → CanRun s i p → IsRun (choice s π now)
-unfolding choice
-choice-complete s π now i p c = run-found (standings s π now) (slots s) i p (present-is (c .present) .0) (can-fits s π now i p c)
-
--- a Preempt is of a runner past its slice
-pub choice-preempt : (s : System) (π : Scheduler) (now i p : ℕ) → choice s π now ≡ Preempt i p → CanPreempt s π now i p
-unfolding choice standings
-choice-preempt s π now i p e =
-    let k = preempt-beaten (standings s π now) (slots s) i p e in
-    let h = both _ _ (k .hot) in
-    late (stateAt s i) refl (is-present s i (k .below) (h .0)) (h .1) (k .on)
-  where
-    late : (st : RunState) → stateAt s i ≡ st → Present s i → isExpired (π .quantum) (elapsed (vcpuAt s i) now) st ≡ true → onto st ≡ p
-        → CanPreempt s π now i p
-    late Offline r h x o = absurd (false≢true x)
-    late Runnable r h x o = absurd (false≢true x)
-    late (Running q) r h x o = record { present = h; on = r ∙ ap Running o; late = leb-true _ _ x }
-    late Blocked r h x o = absurd (false≢true x)
-
 -- j waits, may run on p, and has had less service for its weight than i
 pub record Rival (s : System) (π : Scheduler) (now i p j : ℕ) : Type 0 where
   pub present : Present s j
@@ -103,65 +53,141 @@ pub record Rival (s : System) (π : Scheduler) (now i p j : ℕ) : Type 0 where
   pub affine : admits s j p ≡ true
   pub wins : deserves s π now j i ≡ true
 
--- who is preempted has a rival
-pub choice-beaten : (s : System) (π : Scheduler) (now i p : ℕ) → choice s π now ≡ Preempt i p → (j : ℕ) × Rival s π now i p j
-unfolding choice standings
-choice-beaten s π now i p e =
-    let k = preempt-beaten (standings s π now) (slots s) i p e in
-    let b = k .beats in
-    let w = both _ _ (b .waits) in
-    (k .by, record { present = is-present s (k .by) (b .below) (w .0); ready = is-runnable _ (w .1); affine = rw (k .on) at (b .admits); wins = b .wins })
+-- those that a Run is chosen from
+pub record Placeable (s : System) (i : ℕ) : Type 0 where
+  pub onto : ℕ
+  pub can : CanRun s i onto
 
--- a runner that may be preempted is hot, and a rival beats it
-can-hot : (s : System) (π : Scheduler) (now i p : ℕ) → CanPreempt s π now i p → standings s π now .hot i ≡ true
-unfolding standings
-can-hot s π now i p c =
-    all-two (present-is (c .present) .1) (ap (isExpired (π .quantum) (elapsed (vcpuAt s i) now)) (c .on) ∙ le-leb _ _ (c .late))
+-- those that a Preempt is chosen from
+pub record Preemptible (s : System) (π : Scheduler) (now i : ℕ) : Type 0 where
+  pub on : ℕ
+  pub can : CanPreempt s π now i on
+  pub by : ℕ
+  pub rival : Rival s π now i on by
 
-rival-beats : (s : System) (π : Scheduler) (now i p j : ℕ) → CanPreempt s π now i p → Rival s π now i p j → Beats (standings s π now) (slots s) i j
-unfolding standings
-rival-beats s π now i p j c r =
-    record {
-      below = present-is (r .present) .0;
-      waits = all-two (present-is (r .present) .1) (ap isRunnable (r .ready));
-      admits = rw (ap onto (c .on)) (r .affine);
-      wins = r .wins;
-    }
+-- ---- what the standings say, in these terms
 
--- at rest no runner past its slice has one
-pub choice-unbeaten : (s : System) (π : Scheduler) (now i p j : ℕ) → choice s π now ≡ Rest → CanPreempt s π now i p → Present s j
-    → stateAt s j ≡ Runnable → admits s j p ≡ true → deserves s π now j i ≡ false
-unfolding choice
-choice-unbeaten s π now i p j e c h r a = go (deserves s π now j i) refl
-  where
-    go : (b : Bool) → deserves s π now j i ≡ b → b ≡ false
-    go false x = refl
-    go true x =
-        absurd
-        (rest-unbeaten (standings s π now) (slots s) i j e (present-is (c .present) .0) (can-hot s π now i p c)
-        (rival-beats s π now i p j c (record { present = h; ready = r; affine = a; wins = x })))
+module _ (s : System) (π : Scheduler) (now : ℕ) where
+  fits-can : (i p : ℕ) → i < slots s → Fits (standings s π now) i p → CanRun s i p
+  unfolding standings
+  fits-can i p l f =
+      let w = both _ _ (f .waits) in
+      let d = both _ _ (f .idle) in
+      record {
+        present = is-present s i l (w .0);
+        ready = is-runnable _ (w .1);
+        exists = ltb-true _ _ (d .0);
+        free = is-idle _ (d .1);
+        affine = f .admits;
+      }
 
--- where vCPUs are ranked, nobody who might be dispatched deserves it more than who is
-pub choice-least : (s : System) (π : Scheduler) (now i p j q : ℕ) → Ranks (deserves s π now) (slots s) → choice s π now ≡ Run i p → CanRun s j q
-    → deserves s π now j i ≡ false
-unfolding choice standings
-choice-least s π now i p j q R e c =
-    pick-least (standings s π now) (slots s) R i p j q e (present-is (c .present) .0) (can-fits s π now j q c)
+  can-fits : (i p : ℕ) → CanRun s i p → Fits (standings s π now) i p
+  unfolding standings
+  can-fits i p c =
+      let x = c .exists in
+      record {
+        waits = all-two (present-is (c .present) .1) (ap isRunnable (c .ready));
+        word = omega arith;
+        idle = all-two (lt-ltb p (pcpus s) x) (ap isIdle (c .free));
+        admits = c .affine;
+      }
 
-pub choice-earliest : (s : System) (π : Scheduler) (now i p j q : ℕ) → Ranks (deserves s π now) (slots s) → choice s π now ≡ Run i p → j < i
-    → CanRun s j q → deserves s π now i j ≡ true
-unfolding choice standings
-choice-earliest s π now i p j q R e l c = pick-earliest (standings s π now) (slots s) R i p j q e l (can-fits s π now j q c)
+  hot-can : (i : ℕ) → i < slots s → standings s π now .hot i ≡ true → CanPreempt s π now i (onto (stateAt s i))
+  unfolding standings
+  hot-can i l h = let e = both _ _ h in late (stateAt s i) refl (is-present s i l (e .0)) (e .1)
+    where
+      late : (st : RunState) → stateAt s i ≡ st → Present s i → isExpired (π .quantum) (elapsed (vcpuAt s i) now) st ≡ true
+          → CanPreempt s π now i (onto st)
+      late Offline r h x = absurd (false≢true x)
+      late Runnable r h x = absurd (false≢true x)
+      late (Running q) r h x = record { present = h; on = r; late = leb-true _ _ x }
+      late Blocked r h x = absurd (false≢true x)
 
--- nobody who might be preempted deserves it more than who is; the earliest is, of those that deserve it alike
-pub choice-worst : (s : System) (π : Scheduler) (now i p j q k : ℕ) → Ranks (deserves s π now) (slots s) → choice s π now ≡ Preempt i p
-    → CanPreempt s π now j q → Rival s π now j q k → deserves s π now i j ≡ false
-unfolding choice standings
-choice-worst s π now i p j q k R e c r =
-    victim-worst (standings s π now) (slots s) R i p j k e (present-is (c .present) .0) (can-hot s π now j q c) (rival-beats s π now j q k c r)
+  pub can-hot : (i p : ℕ) → CanPreempt s π now i p → standings s π now .hot i ≡ true
+  unfolding standings
+  can-hot i p c = all-two (present-is (c .present) .1) (ap (isExpired (π .quantum) (elapsed (vcpuAt s i) now)) (c .on) ∙ le-leb _ _ (c .late))
 
-pub choice-worst-earliest : (s : System) (π : Scheduler) (now i p j q k : ℕ) → Ranks (deserves s π now) (slots s) → choice s π now ≡ Preempt i p
-    → j < i → CanPreempt s π now j q → Rival s π now j q k → deserves s π now j i ≡ true
-unfolding choice standings
-choice-worst-earliest s π now i p j q k R e l c r =
-    victim-earliest (standings s π now) (slots s) R i p j k e l (can-hot s π now j q c) (rival-beats s π now j q k c r)
+  beats-rival : (i j : ℕ) → Beats (standings s π now) (slots s) i j → Rival s π now i (onto (stateAt s i)) j
+  unfolding standings
+  beats-rival i j b =
+      let w = both _ _ (b .waits) in
+      record { present = is-present s j (b .below) (w .0); ready = is-runnable _ (w .1); affine = b .admits; wins = b .wins }
+
+  rival-beats : (i p j : ℕ) → CanPreempt s π now i p → Rival s π now i p j → Beats (standings s π now) (slots s) i j
+  unfolding standings
+  rival-beats i p j c r =
+      record {
+        below = present-is (r .present) .0;
+        waits = all-two (present-is (r .present) .1) (ap isRunnable (r .ready));
+        admits = rw (ap onto (c .on)) (r .affine);
+        wins = r .wins;
+      }
+
+  -- ---- the laws
+
+  -- a Run is of one that may be dispatched there
+  pub choice-run : (i p : ℕ) → choice s π now ≡ Run i p → CanRun s i p
+  unfolding choice
+  choice-run i p e = let f = run-fits (standings s π now) (slots s) i p e in fits-can i p (f .0) (f .1)
+
+  -- and there is one if anybody may be dispatched anywhere
+  pub choice-complete : (i p : ℕ) → CanRun s i p → IsRun (choice s π now)
+  unfolding choice
+  choice-complete i p c = run-found (standings s π now) (slots s) i p (present-is (c .present) .0) (can-fits i p c)
+
+  -- a Preempt is of a runner past its slice
+  pub choice-preempt : (i p : ℕ) → choice s π now ≡ Preempt i p → CanPreempt s π now i p
+  unfolding choice standings
+  choice-preempt i p e =
+      let k = preempt-beaten (standings s π now) (slots s) i p e in
+      subst (CanPreempt s π now i) (k .on) (hot-can i (k .below) (k .hot))
+
+  -- and who is preempted has a rival
+  pub choice-beaten : (i p : ℕ) → choice s π now ≡ Preempt i p → (j : ℕ) × Rival s π now i p j
+  unfolding choice standings
+  choice-beaten i p e =
+      let k = preempt-beaten (standings s π now) (slots s) i p e in
+      (k .by, subst (λ (q : ℕ). Rival s π now i q (k .by)) (k .on) (beats-rival i (k .by) (k .beats)))
+
+  -- at rest no runner past its slice has one
+  pub choice-unbeaten : (i p j : ℕ) → choice s π now ≡ Rest → CanPreempt s π now i p → Present s j → stateAt s j ≡ Runnable
+      → admits s j p ≡ true → deserves s π now j i ≡ false
+  unfolding choice
+  choice-unbeaten i p j e c h r a = go (deserves s π now j i) refl
+    where
+      go : (b : Bool) → deserves s π now j i ≡ b → b ≡ false
+      go false x = refl
+      go true x =
+          absurd
+          (rest-unbeaten (standings s π now) (slots s) i j e (present-is (c .present) .0) (can-hot i p c)
+          (rival-beats i p j c (record { present = h; ready = r; affine = a; wins = x })))
+
+  -- where those that may be dispatched are ranked, none of them deserves it more than who is; the earliest is, of those that
+  -- deserve it alike
+  module _ (R : Ranks (Placeable s) (deserves s π now)) (i p j q : ℕ) (e : choice s π now ≡ Run i p) (c : CanRun s j q) where
+    pub choice-least : deserves s π now j i ≡ false
+    unfolding choice standings
+    choice-least =
+        pick-least (standings s π now) (slots s) R (λ k l f. record { onto = _; can = fits-can k _ l f }) i p j q e (present-is (c .present) .0)
+        (can-fits j q c)
+
+    pub choice-earliest : j < i → deserves s π now i j ≡ true
+    unfolding choice standings
+    choice-earliest l =
+        pick-earliest (standings s π now) (slots s) R (λ k l f. record { onto = _; can = fits-can k _ l f }) i p j q e l (can-fits j q c)
+
+  -- where those that may be preempted are ranked, none of them deserves its pCPU less than who is; the earliest is, of those
+  -- that deserve it alike
+  module _ (R : Ranks (Preemptible s π now) (deserves s π now)) (i p j q k : ℕ) (e : choice s π now ≡ Preempt i p) (c : CanPreempt s π now j q)
+      (r : Rival s π now j q k) where
+    preemptible : (x y : ℕ) → x < slots s → standings s π now .hot x ≡ true → Beats (standings s π now) (slots s) x y → Preemptible s π now x
+    preemptible x y l h b = record { on = _; can = hot-can x l h; by = y; rival = beats-rival x y b }
+
+    pub choice-worst : deserves s π now i j ≡ false
+    unfolding choice standings
+    choice-worst =
+        victim-worst (standings s π now) (slots s) R preemptible i p j k e (present-is (c .present) .0) (can-hot j q c) (rival-beats j q k c r)
+
+    pub choice-worst-earliest : j < i → deserves s π now j i ≡ true
+    unfolding choice standings
+    choice-worst-earliest l = victim-earliest (standings s π now) (slots s) R preemptible i p j k e l (can-hot j q c) (rival-beats j q k c r)

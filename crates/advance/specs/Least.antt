@@ -13,38 +13,38 @@ use Rattle.sched.specs.CanRun.{CanRun}
 use Rattle.moves.specs.declared.Choice.the-variants.{Run, Preempt}
 use Rattle.moves.specs.Scan.{Ranks}
 use Rattle.policy.specs.declared.Scheduler.{Scheduler}
-use Rattle.policy.specs.Standing.{slots, weightAt, serviceAt, deserves}
+use Rattle.policy.specs.Standing.{weightAt, serviceAt, deserves}
 use Rattle.advance.specs.Choices.{choice}
-use Rattle.advance.specs.ChoiceLaws.{CanPreempt, Rival, present-is, choice-run, choice-preempt}
+use Rattle.advance.specs.ChoiceLaws.{CanPreempt, Rival, Placeable, Preemptible, choice-run, choice-preempt, choice-beaten}
 use Rattle.advance.specs.ChoiceLaws.{choice-least, choice-earliest, choice-worst, choice-worst-earliest}
 use Rattle.advance.specs.Cross.{before-trans, after-trans}
 
--- no product that ranks two of the first n slots is held
-pub record Unheld (s : System) (π : Scheduler) (now n : ℕ) : Type 0 where
-  pub products : (i j : ℕ) → i < n → j < n → serviceAt s π now i * weightAt π j < 2 ^ 128
+-- no product that ranks two of those is held
+pub record Unheld (s : System) (π : Scheduler) (now : ℕ) (P : ℕ → Type 0) : Type 0 where
+  pub products : (i j : ℕ) → P i → P j → serviceAt s π now i * weightAt π j < 2 ^ 128
 
 pub weight-pos : (π : Scheduler) (i : ℕ) → 0 < weightAt π i
 weight-pos π i = omega arith
 
-module _ {s : System} {π : Scheduler} {now n : ℕ} (U : Unheld s π now n) where
+module _ {s : System} {π : Scheduler} {now : ℕ} {P : ℕ → Type 0} (U : Unheld s π now P) where
   S : ℕ → ℕ
   S = serviceAt s π now
 
   w : ℕ → ℕ
   w = weightAt π
 
-  exact : (i j : ℕ) → i < n → j < n → deserves s π now i j ≡ ltb (serviceAt s π now i * weightAt π j) (serviceAt s π now j * weightAt π i)
+  exact : (i j : ℕ) → P i → P j → deserves s π now i j ≡ ltb (serviceAt s π now i * weightAt π j) (serviceAt s π now j * weightAt π i)
   unfolding deserves
   exact i j l m = deserving-exact (serviceAt s π now i) (weightAt π i) (serviceAt s π now j) (weightAt π j) (U .products i j l m) (U .products j i m l)
 
-  pub before : (i j : ℕ) → i < n → j < n → deserves s π now i j ≡ true → serviceAt s π now i * weightAt π j < serviceAt s π now j * weightAt π i
+  pub before : (i j : ℕ) → P i → P j → deserves s π now i j ≡ true → serviceAt s π now i * weightAt π j < serviceAt s π now j * weightAt π i
   before i j l m e = ltb-true _ _ (sym (exact i j l m) ∙ e)
 
-  pub not-before : (i j : ℕ) → i < n → j < n → deserves s π now i j ≡ false
+  pub not-before : (i j : ℕ) → P i → P j → deserves s π now i j ≡ false
       → serviceAt s π now j * weightAt π i ≤ serviceAt s π now i * weightAt π j
   not-before i j l m e = ltb-false _ _ (sym (exact i j l m) ∙ e)
 
-  pub unheld-ranks : Ranks (deserves s π now) n
+  pub unheld-ranks : Ranks P (deserves s π now)
   unfolding S w
   unheld-ranks =
       record {
@@ -57,33 +57,35 @@ module _ {s : System} {π : Scheduler} {now n : ℕ} (U : Unheld s π now n) whe
             ∙ le-ltb _ _ (after-trans (S i) (w i) (S j) (w j) (S k) (w k) (weight-pos π j) (not-before i j a b e) (not-before j k b c f));
       }
 
-module _ (s : System) (π : Scheduler) (now : ℕ) (U : Unheld s π now (slots s)) (i p j q : ℕ) (e : choice s π now ≡ Run i p) (c : CanRun s j q) where
-  here : i < slots s
-  here = present-is (choice-run s π now i p e .present) .0
+module _ (s : System) (π : Scheduler) (now : ℕ) (U : Unheld s π now (Placeable s)) (i p j q : ℕ) (e : choice s π now ≡ Run i p) (c : CanRun s j q) where
+  this : Placeable s i
+  this = record { onto = p; can = choice-run s π now i p e }
 
-  there : j < slots s
-  there = present-is (c .present) .0
+  other : Placeable s j
+  other = record { onto = q; can = c }
 
   -- whoever else could be dispatched has no less
   pub run-least : serviceAt s π now i * weightAt π j ≤ serviceAt s π now j * weightAt π i
-  run-least = not-before U j i there here (choice-least s π now i p j q (unheld-ranks U) e c)
+  run-least = not-before U j i other this (choice-least s π now (unheld-ranks U) i p j q e c)
 
   -- and more, if it comes earlier
   pub run-earliest : j < i → serviceAt s π now i * weightAt π j < serviceAt s π now j * weightAt π i
-  run-earliest l = before U i j here there (choice-earliest s π now i p j q (unheld-ranks U) e l c)
+  run-earliest l = before U i j this other (choice-earliest s π now (unheld-ranks U) i p j q e c l)
 
-module _ (s : System) (π : Scheduler) (now : ℕ) (U : Unheld s π now (slots s)) (i p j q k : ℕ) (e : choice s π now ≡ Preempt i p)
+module _ (s : System) (π : Scheduler) (now : ℕ) (U : Unheld s π now (Preemptible s π now)) (i p j q k : ℕ) (e : choice s π now ≡ Preempt i p)
     (c : CanPreempt s π now j q) (r : Rival s π now j q k) where
-  at-slot : i < slots s
-  at-slot = present-is (choice-preempt s π now i p e .present) .0
+  victim : Preemptible s π now i
+  victim =
+      let b = choice-beaten s π now i p e in
+      record { on = p; can = choice-preempt s π now i p e; by = b .0; rival = b .1 }
 
-  other-slot : j < slots s
-  other-slot = present-is (c .present) .0
+  spared : Preemptible s π now j
+  spared = record { on = q; can = c; by = k; rival = r }
 
   -- whoever else could be preempted has no more
   pub preempt-most : serviceAt s π now j * weightAt π i ≤ serviceAt s π now i * weightAt π j
-  preempt-most = not-before U i j at-slot other-slot (choice-worst s π now i p j q k (unheld-ranks U) e c r)
+  preempt-most = not-before U i j victim spared (choice-worst s π now (unheld-ranks U) i p j q k e c r)
 
   -- and less, if it comes earlier
   pub preempt-earliest : j < i → serviceAt s π now j * weightAt π i < serviceAt s π now i * weightAt π j
-  preempt-earliest l = before U j i other-slot at-slot (choice-worst-earliest s π now i p j q k (unheld-ranks U) e l c r)
+  preempt-earliest l = before U j i spared victim (choice-worst-earliest s π now (unheld-ranks U) i p j q k e c r l)

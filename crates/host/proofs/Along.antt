@@ -31,7 +31,8 @@ use Rattle.host.specs.declared.Host.{Host}
 use Rattle.host.specs.declared.Call.{Call}
 use Rattle.host.specs.Step.{Step, step, bySystem, byAdvance}
 use Rattle.host.specs.Book.{Book, Shape, Entry, moved, movedAll, enter}
-use Rattle.host.specs.Agreement.{Shaped, Lines}
+use Rattle.host.specs.Agreement.{Shaped}
+use Rattle.host.proofs.Holders.{Lines}
 use Rattle.host.proofs.Matching.{Alike, on-pcpu, off-pcpu, wrote-lines}
 use Rattle.host.proofs.Keeping.{InStep, requested-alike, run-alike, offline-all-alike}
 

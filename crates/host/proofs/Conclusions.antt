@@ -36,8 +36,8 @@ use Rattle.host.specs.declared.Host.{Host}
 use Rattle.host.specs.declared.Call.{Call}
 use Rattle.host.specs.Step.{step, after, freshHost}
 use Rattle.host.specs.Book.{Book, Shape, blank, holder, occupantBy, enter}
-use Rattle.host.specs.Agreement.{Says, Agrees}
-use Rattle.host.proofs.Holders.{agrees}
+use Rattle.host.specs.Agreement.{Exists, Says, Agrees}
+use Rattle.host.proofs.Holders.{shaped-present, agrees}
 use Rattle.host.specs.Lists.{bookAfter, openPart, bookService}
 use Rattle.host.proofs.Along.{Kept, step-goes, advance-rests-here, accounted-slice, weighed-slice, boosted-slice}
 use Rattle.host.proofs.Young.{New}
@@ -124,10 +124,8 @@ module _ {k : Shape} {b : Book} {h : Host} (K : Kept k b h) where
   abbrev s : System
   s = h .system
 
-  exists : (i : ℕ) → i / 8 < k .domains → i % 8 < k .vcpus → Present s i
-  exists i x y =
-      let T = K .in-step in
-      record { domain = omega (arith, T .shaped .domains, T .sound .domains); vcpu = omega (arith, T .shaped .vcpus, T .sound .vcpus) }
+  exists : {i : ℕ} → Exists k i → Present s i
+  exists e = shaped-present (K .in-step .shaped) (K .in-step .sound) e
 
   pcpus-same : pcpus s ≡ k .pcpus
   pcpus-same = let T = K .in-step in omega (arith, T .shaped .pcpus, T .sound .pcpus)
@@ -154,11 +152,11 @@ module _ {k : Shape} {b : Book} {h : Host} (K : Kept k b h) where
 -- as an advance returns, nobody of the book waits beside a pCPU that nobody of the book holds
 pub quiet : {k : Shape} {b : Book} {h : Host} (K : Kept k b h) (now : ℕ)
     → let c = (enter k b (Call.Advance now) ((step h (Call.Advance now)) .moves)) .book in
-    (i p : ℕ) → i / 8 < k .domains → i % 8 < k .vcpus → p < k .pcpus → (c i) .state ≡ Runnable → holder k c p ≡ nobody → permits ((c i) .mask) p ≡ true → ⊥
-quiet {k} {b} {h} K now i p x y l e f g =
+    (i p : ℕ) → Exists k i → p < k .pcpus → (c i) .state ≡ Runnable → holder k c p ≡ nobody → permits ((c i) .mask) p ≡ true → ⊥
+quiet {k} {b} {h} K now i p x l e f g =
     let A = advance-rests-here now K in
     let K′ = step-goes (Call.Advance now) K .kept in
-    let hi = exists K′ i x y in
+    let hi = exists K′ x in
     let z = K′ .in-step .lines .says i hi in
     rest-quiet _ _ now i p (A .rests)
     (record {
@@ -204,11 +202,11 @@ earlier {w} {lim} {s} {t} r l L i j hi hj h e =
     lower Blocked = omega arith
 
 pub point-lag : {k : Shape} {b : Book} {h : Host} {g t : ℕ} (r : ℕ) → Kept k b h → Pooling g t (h .system) (h .scheduler) → r ≤ t + g → (i j : ℕ)
-    → i / 8 < k .domains → i % 8 < k .vcpus → j / 8 < k .domains → j % 8 < k .vcpus → schedulable ((b i) .state) ≡ true → (b j) .state ≡ Runnable
+    → Exists k i → Exists k j → schedulable ((b i) .state) ≡ true → (b j) .state ≡ Runnable
     → let w = weightAt (h .scheduler) in bookService b r i * w j ≤ bookService b r j * w i + (h .scheduler .quantum + g - 1) * w j
-point-lag {b = b} {h = h} {g = g} {t = t} r K P up i j a c x y e f =
-    let hi = exists K i a c in
-    let hj = exists K j x y in
+point-lag {b = b} {h = h} {g = g} {t = t} r K P up i j x y e f =
+    let hi = exists K x in
+    let hj = exists K y in
     let L = K .in-step .lines in
     let pi = sym (ap schedulable (L .says i hi .state)) ∙ e in
     let wj = sym (L .says j hj .state) ∙ f in

@@ -13,7 +13,8 @@ use Rattle.host.specs.Step.{after, freshHost}
 use Rattle.host.specs.Book.{Book, Shape, blank, holder}
 use Rattle.host.specs.Lists.{AllFit, bookAfter, PoolList, latest, bookService}
 use Rattle.host.specs.Lists as lists
-use Rattle.host.specs.Demand3.{Exists, EveryFreshHost}
+use Rattle.host.specs.Agreement.{Exists}
+use Rattle.host.specs.Demand3.{EveryFreshHost}
 use Rattle.host.proofs.Along.{Kept, step-goes}
 use Rattle.host.proofs.Pooling.{Pooling}
 use Rattle.host.proofs.PoolAlong.{list-along}
@@ -29,13 +30,13 @@ demand-3 d v p e u q hd hv hp hq cs f =
       placed = λ before rest now x.
           subst (λ (b : Book). (i p : ℕ) → Exists k i → p < k .pcpus → (b i) .state ≡ Runnable → holder k b p ≡ nobody → permits ((b i) .mask) p ≡ true → ⊥)
           (sym (book-append k before (Call.Advance now ∷ []) h (blank k)))
-          (λ i p y. quiet (at-point before) now i p (y .domain) (y .vcpu));
+          (quiet (at-point before) now);
       lag = λ g l before rest x t r y z i j a c n m.
           subst
           (λ (s : ℕ).
           bookService (book before) r i * weight before j ≤ bookService (book before) r j * weight before i + (s + g - 1) * weight before j)
           (after-slice before h (blank k) start)
-          (point-lag r (at-point before) (bounded g l before rest x t y) z i j (a .domain) (a .vcpu) (c .domain) (c .vcpu) n m);
+          (point-lag r (at-point before) (bounded g l before rest x t y) z i j a c n m);
       offsets = λ g l before rest x t y i. bounded g l before rest x t y .plain .offsets i;
     }
   where

@@ -9,13 +9,17 @@ use Rattle.masks.specs.Conj.{both}
 use Rattle.system.specs.declared.Occupant.{Occupant}
 use Rattle.system.specs.declared.Occupant.the-variants.{Idle, Vcpu}
 use Rattle.system.specs.declared.System.{System}
-use Rattle.system.specs.Reads.{pcpus, slot, occupantAt}
+use Rattle.system.specs.Reads.{pcpus, slot, vcpuAt, occupantAt}
 use Rattle.verdict.specs.Violations.{runsOn}
 use Rattle.verdict.specs.Sound.{Present, Sound, runs-on}
 use Rattle.moves.specs.Scan.{Pick, nobody, at, scan, scan-sound, scan-complete}
 use Rattle.moves.specs.Decide.{never}
 use Rattle.host.specs.Book.{Book, Shape, holder, occupantBy}
-use Rattle.host.specs.Agreement.{Shaped, Lines, Agrees}
+use Rattle.host.specs.Agreement.{Says, Exists, Shaped, Agrees}
+
+-- what the book says of each vCPU that the system has
+pub record Lines (b : Book) (s : System) : Type 0 where
+  pub says : (i : ℕ) → Present s i → Says (b i) (vcpuAt s i)
 
 -- in a sound system whoever is Running on a pCPU holds it, and only that one
 pub holder-agrees : (k : Shape) (b : Book) (s : System) (p : ℕ) → Shaped k s → Sound s → Lines b s → p < k .pcpus
@@ -53,5 +57,10 @@ holder-agrees k b s p h S L l = go (scan test never (k .domains * 8)) refl
         let q : Present s i = record { domain = omega (arith, h .domains, S .domains); vcpu = omega (arith, h .vcpus, S .vcpus) } in
         S .runs i p q (sym (L .says i q .state) ∙ runs-on p _ (g .1)) .back
 
+pub shaped-present : {k : Shape} {s : System} {i : ℕ} → Shaped k s → Sound s → Exists k i → Present s i
+shaped-present h S e =
+    record { domain = omega (arith, h .domains, S .domains, e .domain); vcpu = omega (arith, h .vcpus, S .vcpus, e .vcpu) }
+
 pub agrees : {k : Shape} {b : Book} {s : System} → Shaped k s → Sound s → Lines b s → Agrees k b s
-agrees {k} {b} {s} h S L = record { lines = L; holders = λ p l. holder-agrees k b s p h S L l }
+agrees {k} {b} {s} h S L =
+    record { shape = h; lines = λ i e. L .says i (shaped-present h S e); holders = λ p l. holder-agrees k b s p h S L l }

@@ -23,8 +23,8 @@ use Rattle.sched.proofs.Requests.{changed-legal, ran-legal}
 use Rattle.sched.proofs.Kept.{first-keeps}
 use Rattle.moves.specs.Scan.{Pick, nobody, at, some}
 use Rattle.host.specs.Book.{Book, Shape, holder, occupantBy, Note, Entry, entered, identified, runNote, offlineLines}
-use Rattle.host.specs.Agreement.{Shaped, Lines}
-use Rattle.host.proofs.Holders.{holder-agrees}
+use Rattle.host.specs.Agreement.{Shaped}
+use Rattle.host.proofs.Holders.{Lines, holder-agrees}
 use Rattle.host.proofs.Matching.{Match, requestNote, request-match, run-match, Alike, applied-alike}
 
 -- a system in step with its book

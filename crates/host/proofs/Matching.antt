@@ -28,7 +28,8 @@ use Rattle.sched.specs.Steps.{admitted, preempted, blocked, woken, masked, offl
 use Rattle.sched.proofs.Legal.{NotRunning, Legal, goes-on, comes-off, slot-below, present-back}
 use Rattle.sched.proofs.Requests.{off-nr, ready-nr, blocked-nr}
 use Rattle.host.specs.Book.{Line, Book, noted, marked, remasked, opened, closed, Note, refuse, write, Entry, entered, admitNote, runNote, preemptNote, blockNote, wakeNote, offlineNote, maskNote}
-use Rattle.host.specs.Agreement.{Says, Lines}
+use Rattle.host.specs.Agreement.{Says}
+use Rattle.host.proofs.Holders.{Lines}
 
 pub data Match : Change → Note → Type 0 where
   both-refuse : (a : Answer) → Match (Refuse a) (refuse (told a))

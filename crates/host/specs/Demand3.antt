@@ -14,14 +14,9 @@ use Rattle.host.specs.declared.Host.{Host}
 use Rattle.host.specs.declared.Call.{Call}
 use Rattle.host.specs.Step.{step, after, freshHost}
 use Rattle.host.specs.Book.{Shape, blank, holder, enter}
-use Rattle.host.specs.Agreement.{Agrees}
+use Rattle.host.specs.Agreement.{Exists, Agrees}
 use Rattle.host.specs.Lists.{AllFit, bookAfter, PoolList, latest, bookService}
 use Rattle.host.specs.Lists as lists
-
--- slot i has a vCPU on a host of that shape
-pub record Exists (k : Shape) (i : ℕ) : Type 0 where
-  pub domain : i / 8 < k .domains
-  pub vcpu : i % 8 < k .vcpus
 
 -- What holds of the calls cs of a host h that was just built in the shape k. `before` is any part of the list from its
 -- start: what is said of it is said at every point.

@@ -81,42 +81,44 @@ by-beaten t n i j b = go (scan test never n) refl
     go nobody e = absurd (scan-complete test never n j (b .below) (all-two (b .waits) (all-two (b .admits) (b .wins))) e)
     go (at k) e = refl
 
--- ---- why a decision was made
+-- ---- what a decision tells of the two scans
 
-pub data Why (t : Standings) (n : ℕ) : Choice → Type 0 where
-  ran : {i : ℕ} → i < n → Fits t i (placement t i) → chosen t n ≡ at i → Why t n (Run i (placement t i))
-  stopped : {i : ℕ} → i < n → t .hot i ≡ true → beaten t n i ≡ true → chosen t n ≡ nobody → victim t n ≡ at i
-      → Why t n (Preempt i (t .on i))
-  rested : chosen t n ≡ nobody → victim t n ≡ nobody → Why t n Rest
-
-why : (t : Standings) (n : ℕ) → Why t n (decide t n)
-unfolding decide chosen victim loses
-why t n = go (scan (placeable t) (t .beats) n) refl (scan (loses t n) (λ k j. t .beats j k) n) refl
+run-why : (t : Standings) (n i p : ℕ) → decide t n ≡ Run i p → (chosen t n ≡ at i) × (placement t i ≡ p)
+unfolding decide
+run-why t n i p e = go (chosen t n) refl (victim t n) e
   where
-    go : (r : Pick) → scan (placeable t) (t .beats) n ≡ r → (q : Pick) → scan (loses t n) (λ k j. t .beats j k) n ≡ q
-        → Why t n (orRun t r (orPreempt t q))
-    go (at i) e q f = let h = scan-sound (placeable t) (t .beats) n i e in ran (h .0) (placeable-fits t i (h .1)) e
-    go nobody e (at i) f =
-        let h = scan-sound (loses t n) (λ k j. t .beats j k) n i f in
-        let g = both _ _ (h .1) in
-        stopped (h .0) (g .0) (g .1) e f
-    go nobody e nobody f = rested e f
+    go : (r : Pick) → chosen t n ≡ r → (q : Pick) → orRun t r (orPreempt t q) ≡ Run i p → (chosen t n ≡ at i) × (placement t i ≡ p)
+    go (at j) c q h = let a : j ≡ i = cc in let b : placement t j ≡ p = cc in rw (← a) (c, b)
+    go nobody c (at j) h = absurd (let z : _≡_ {A = ℕ} 0 1 = cc in omega arith)
+    go nobody c nobody h = absurd (let z : _≡_ {A = ℕ} 0 1 = cc in omega arith)
 
--- nobody is chosen only if nobody fits
-chosen-complete : (t : Standings) (n i p : ℕ) → i < n → Fits t i p → chosen t n ≡ nobody → ⊥
-unfolding chosen
-chosen-complete t n i p l f e = scan-complete (placeable t) (t .beats) n i l (fits-placeable t i p f) e
+preempt-why : (t : Standings) (n i p : ℕ) → decide t n ≡ Preempt i p → (victim t n ≡ at i) × (t .on i ≡ p)
+unfolding decide
+preempt-why t n i p e = go (chosen t n) (victim t n) refl e
+  where
+    go : (r q : Pick) → victim t n ≡ q → orRun t r (orPreempt t q) ≡ Preempt i p → (victim t n ≡ at i) × (t .on i ≡ p)
+    go (at j) q v h = absurd (let z : _≡_ {A = ℕ} 0 1 = cc in omega arith)
+    go nobody (at j) v h = let a : j ≡ i = cc in let b : t .on j ≡ p = cc in rw (← a) (v, b)
+    go nobody nobody v h = absurd (let z : _≡_ {A = ℕ} 0 1 = cc in omega arith)
+
+rest-why : (t : Standings) (n : ℕ) → decide t n ≡ Rest → victim t n ≡ nobody
+unfolding decide
+rest-why t n e = go (chosen t n) (victim t n) e
+  where
+    go : (r q : Pick) → orRun t r (orPreempt t q) ≡ Rest → q ≡ nobody
+    go (at j) q h = absurd (let z : _≡_ {A = ℕ} 0 1 = cc in omega arith)
+    go nobody (at j) h = absurd (let z : _≡_ {A = ℕ} 0 1 = cc in omega arith)
+    go nobody nobody h = refl
 
 -- ---- the laws
 
 -- a Run is of one that waits, onto an idle pCPU that its mask admits
 pub run-fits : (t : Standings) (n i p : ℕ) → decide t n ≡ Run i p → (i < n) × Fits t i p
-run-fits t n i p e = go (why t n) e
-  where
-    go : {d : Choice} → Why t n d → d ≡ Run i p → (i < n) × Fits t i p
-    go (ran {i = j} l f c) h = let a : j ≡ i = cc in let b : placement t j ≡ p = cc in rw (← a, ← b) (l, f)
-    go (stopped l h b c v) g = absurd (let z : _≡_ {A = ℕ} 0 1 = cc in omega arith)
-    go (rested c v) g = absurd (let z : _≡_ {A = ℕ} 0 1 = cc in omega arith)
+unfolding chosen
+run-fits t n i p e =
+    let w = run-why t n i p e in
+    let h = scan-sound (placeable t) (t .beats) n i (w .0) in
+    (h .0, rw (w .1) at (placeable-fits t i (h .1)))
 
 -- the decision is a Run
 pub record IsRun (d : Choice) : Type 0 where
@@ -126,14 +128,14 @@ pub record IsRun (d : Choice) : Type 0 where
 
 -- it is one if anybody who waits may use an idle pCPU
 pub run-found : (t : Standings) (n i p : ℕ) → i < n → Fits t i p → IsRun (decide t n)
-run-found t n i p l f = go (why t n)
+unfolding decide chosen
+run-found t n i p l f = go (chosen t n) refl
   where
-    go : {d : Choice} → Why t n d → IsRun d
-    go (ran {i = j} k g c) = record { who = j; onto = placement t j; is = refl }
-    go (stopped k h b c v) = absurd (chosen-complete t n i p l f c)
-    go (rested c v) = absurd (chosen-complete t n i p l f c)
+    go : (r : Pick) → chosen t n ≡ r → IsRun (orRun t r (orPreempt t (victim t n)))
+    go (at j) c = record { who = j; onto = placement t j; is = refl }
+    go nobody c = absurd (scan-complete (placeable t) (t .beats) n i l (fits-placeable t i p f) c)
 
--- a Preempt is of one that is hot, where it runs, and that a waiter beats who may run there; nobody could be placed
+-- a Preempt is of one that is hot, where it runs, and that a waiter beats who may run there
 pub record IsStopped (t : Standings) (n i p : ℕ) : Type 0 where
   pub below : i < n
   pub hot : t .hot i ≡ true
@@ -142,37 +144,24 @@ pub record IsStopped (t : Standings) (n i p : ℕ) : Type 0 where
   pub beats : Beats t n i by
 
 pub preempt-beaten : (t : Standings) (n i p : ℕ) → decide t n ≡ Preempt i p → IsStopped t n i p
-preempt-beaten t n i p e = go (why t n) e
-  where
-    go : {d : Choice} → Why t n d → d ≡ Preempt i p → IsStopped t n i p
-    go (ran l f c) g = absurd (let z : _≡_ {A = ℕ} 0 1 = cc in omega arith)
-    go (stopped {i = j} l h b c v) g =
-        let a : j ≡ i = cc in
-        let q : t .on j ≡ p = cc in
-        let k = beaten-by t n j b in
-        rw (← a) (record { below = l; hot = h; on = q; by = k .0; beats = k .1 })
-    go (rested c v) g = absurd (let z : _≡_ {A = ℕ} 0 1 = cc in omega arith)
+unfolding victim loses
+preempt-beaten t n i p e =
+    let w = preempt-why t n i p e in
+    let h = scan-sound (loses t n) (λ k j. t .beats j k) n i (w .0) in
+    let g = both _ _ (h .1) in
+    let k = beaten-by t n i (g .1) in
+    record { below = h .0; hot = g .0; on = w .1; by = k .0; beats = k .1 }
 
--- at Rest nobody who waits may use an idle pCPU
-pub rest-placed : (t : Standings) (n i p : ℕ) → decide t n ≡ Rest → i < n → Fits t i p → ⊥
-rest-placed t n i p e l f = let r = run-found t n i p l f in let z : _≡_ {A = ℕ} 0 1 = cc in omega arith
-
--- and nobody hot is beaten by a waiter who may run there
+-- at Rest nobody hot is beaten by a waiter who may run there
 pub rest-unbeaten : (t : Standings) (n i j : ℕ) → decide t n ≡ Rest → i < n → t .hot i ≡ true → Beats t n i j → ⊥
 unfolding victim loses
-rest-unbeaten t n i j e l h b = go (why t n) e
-  where
-    lost : victim t n ≡ nobody → ⊥
-    lost v = scan-complete (loses t n) (λ k j. t .beats j k) n i l (all-two h (by-beaten t n i j b)) v
+rest-unbeaten t n i j e l h b =
+    scan-complete (loses t n) (λ k j. t .beats j k) n i l (all-two h (by-beaten t n i j b)) (rest-why t n e)
 
-    go : {d : Choice} → Why t n d → d ≡ Rest → ⊥
-    go (ran k f c) g = let z : _≡_ {A = ℕ} 0 1 = cc in omega arith
-    go (stopped k x y c v) g = let z : _≡_ {A = ℕ} 0 1 = cc in omega arith
-    go (rested c v) g = lost v
+-- ---- where `beats` ranks those that are compared, the pick is the most deserving and the victim the least deserving, the
+-- earliest among equals
 
--- ---- where `beats` ranks, the pick is the most deserving and the victim the least deserving, the earliest among equals
-
-turned : {b : ℕ → ℕ → Bool} {n : ℕ} → Ranks b n → Ranks (λ k j. b j k) n
+turned : {P : ℕ → Type 0} {b : ℕ → ℕ → Bool} → Ranks P b → Ranks P (λ k j. b j k)
 turned R =
     record {
       irrefl = R .irrefl;
@@ -180,48 +169,36 @@ turned R =
       weak = λ i j k x y z e f. R .weak k j i z y x f e;
     }
 
-module _ (t : Standings) (n : ℕ) (R : Ranks (t .beats) n) where
+module _ (t : Standings) (n : ℕ) {P : ℕ → Type 0} (R : Ranks P (t .beats)) (P-of : (i : ℕ) → i < n → Fits t i (placement t i) → P i) where
+  passes : (i : ℕ) → i < n → placeable t i ≡ true → P i
+  passes i l c = P-of i l (placeable-fits t i c)
+
   pub pick-least : (i p j q : ℕ) → decide t n ≡ Run i p → j < n → Fits t j q → t .beats j i ≡ false
   unfolding chosen
-  pick-least i p j q e l f = go (why t n) e
-    where
-      go : {d : Choice} → Why t n d → d ≡ Run i p → t .beats j i ≡ false
-      go (ran {i = k} m g c) h =
-          let a : k ≡ i = cc in
-          rw (← a) (scan-least (placeable t) (t .beats) n R n k j (le-refl n) c l (fits-placeable t j q f))
-      go (stopped m x y c v) h = absurd (let z : _≡_ {A = ℕ} 0 1 = cc in omega arith)
-      go (rested c v) h = absurd (let z : _≡_ {A = ℕ} 0 1 = cc in omega arith)
+  pick-least i p j q e l f =
+      scan-least (placeable t) (t .beats) R n passes n i j (le-refl n) (run-why t n i p e .0) l (fits-placeable t j q f)
 
   pub pick-earliest : (i p j q : ℕ) → decide t n ≡ Run i p → j < i → Fits t j q → t .beats i j ≡ true
   unfolding chosen
-  pick-earliest i p j q e l f = go (why t n) e
-    where
-      go : {d : Choice} → Why t n d → d ≡ Run i p → t .beats i j ≡ true
-      go (ran {i = k} m g c) h =
-          let a : k ≡ i = cc in
-          rw (← a) (scan-earliest (placeable t) (t .beats) n R n k j (le-refl n) c (omega arith) (fits-placeable t j q f))
-      go (stopped m x y c v) h = absurd (let z : _≡_ {A = ℕ} 0 1 = cc in omega arith)
-      go (rested c v) h = absurd (let z : _≡_ {A = ℕ} 0 1 = cc in omega arith)
+  pick-earliest i p j q e l f =
+      scan-earliest (placeable t) (t .beats) R n passes n i j (le-refl n) (run-why t n i p e .0) l (fits-placeable t j q f)
+
+module _ (t : Standings) (n : ℕ) {P : ℕ → Type 0} (R : Ranks P (t .beats)) (P-of : (i j : ℕ) → i < n → t .hot i ≡ true → Beats t n i j → P i) where
+  stops : (i : ℕ) → i < n → loses t n i ≡ true → P i
+  unfolding loses
+  stops i l c =
+      let g = both _ _ c in
+      let k = beaten-by t n i (g .1) in
+      P-of i (k .0) l (g .0) (k .1)
 
   pub victim-worst : (i p j k : ℕ) → decide t n ≡ Preempt i p → j < n → t .hot j ≡ true → Beats t n j k → t .beats i j ≡ false
   unfolding victim loses
-  victim-worst i p j k e l h b = go (why t n) e
-    where
-      go : {d : Choice} → Why t n d → d ≡ Preempt i p → t .beats i j ≡ false
-      go (ran m g c) f = absurd (let z : _≡_ {A = ℕ} 0 1 = cc in omega arith)
-      go (stopped {i = x} m y z c v) f =
-          let a : x ≡ i = cc in
-          rw (← a) (scan-least (loses t n) (λ u w. t .beats w u) n (turned R) n x j (le-refl n) v l (all-two h (by-beaten t n j k b)))
-      go (rested c v) f = absurd (let z : _≡_ {A = ℕ} 0 1 = cc in omega arith)
+  victim-worst i p j k e l h b =
+      scan-least (loses t n) (λ u w. t .beats w u) (turned R) n stops n i j (le-refl n) (preempt-why t n i p e .0) l
+      (all-two h (by-beaten t n j k b))
 
   pub victim-earliest : (i p j k : ℕ) → decide t n ≡ Preempt i p → j < i → t .hot j ≡ true → Beats t n j k → t .beats j i ≡ true
   unfolding victim loses
-  victim-earliest i p j k e l h b = go (why t n) e
-    where
-      go : {d : Choice} → Why t n d → d ≡ Preempt i p → t .beats j i ≡ true
-      go (ran m g c) f = absurd (let z : _≡_ {A = ℕ} 0 1 = cc in omega arith)
-      go (stopped {i = x} m y z c v) f =
-          let a : x ≡ i = cc in
-          rw (← a) (scan-earliest (loses t n) (λ u w. t .beats w u) n (turned R) n x j (le-refl n) v (omega arith)
-          (all-two h (by-beaten t n j k b)))
-      go (rested c v) f = absurd (let z : _≡_ {A = ℕ} 0 1 = cc in omega arith)
+  victim-earliest i p j k e l h b =
+      scan-earliest (loses t n) (λ u w. t .beats w u) (turned R) n stops n i j (le-refl n) (preempt-why t n i p e .0) l
+      (all-two h (by-beaten t n j k b))

@@ -72,13 +72,13 @@ module _ (c : ℕ → Bool) (b : ℕ → ℕ → Bool) where
           go true f = let z : _≡_ {A = ℕ} 0 1 = cc in omega arith
           go false f = let z : _≡_ {A = ℕ} 0 1 = cc in omega arith
 
--- b ranks the indices below n: it is a strict weak order there
-pub record Ranks (b : ℕ → ℕ → Bool) (n : ℕ) : Type 0 where
-  pub irrefl : (i : ℕ) → i < n → b i i ≡ false
-  pub trans : (i j k : ℕ) → i < n → j < n → k < n → b i j ≡ true → b j k ≡ true → b i k ≡ true
-  pub weak : (i j k : ℕ) → i < n → j < n → k < n → b i j ≡ false → b j k ≡ false → b i k ≡ false
+-- b ranks those of whom P is true: it is a strict weak order among them
+pub record Ranks (P : ℕ → Type 0) (b : ℕ → ℕ → Bool) : Type 0 where
+  pub irrefl : (i : ℕ) → P i → b i i ≡ false
+  pub trans : (i j k : ℕ) → P i → P j → P k → b i j ≡ true → b j k ≡ true → b i k ≡ true
+  pub weak : (i j k : ℕ) → P i → P j → P k → b i j ≡ false → b j k ≡ false → b i k ≡ false
 
-module _ (c : ℕ → Bool) (b : ℕ → ℕ → Bool) (m : ℕ) (R : Ranks b m) where
+module _ (c : ℕ → Bool) (b : ℕ → ℕ → Bool) {P : ℕ → Type 0} (R : Ranks P b) (m : ℕ) (P-of : (i : ℕ) → i < m → c i ≡ true → P i) where
   -- nobody who passes is better than the pick
   pub scan-least : (n i j : ℕ) → n ≤ m → scan c b n ≡ at i → j < n → c j ≡ true → b j i ≡ false
   unfolding scan
@@ -91,19 +91,22 @@ module _ (c : ℕ → Bool) (b : ℕ → ℕ → Bool) (m : ℕ) (R : Ranks b m)
           → ((x : ℕ) → r ≡ at x → (x < k) × (c x ≡ true)) → cond t (against b k r) r ≡ at i → (j ≡ k) ⊎ (j < k) → b j i ≡ false
       step false e r ih em so g (inl x) = clash (c j) y (ap c x ∙ e)
       step false e r ih em so g (inr o) = ih i g o
-      step true e nobody ih em so g (inl x) = let z : k ≡ i = cc in let f = R .irrefl k (omega arith) in cc
+      step true e nobody ih em so g (inl x) = let z : k ≡ i = cc in let f = R .irrefl k (P-of k (omega arith) e) in cc
       step true e nobody ih em so g (inr o) = absurd (em o refl)
       step true e (at p) ih em so g o = go (b k p) refl g o
         where
-          below : p < k
-          below = so p refl .0
+          here : P k
+          here = P-of k (omega arith) e
+
+          best : P p
+          best = let f = so p refl in P-of p (omega (arith, f .0)) (f .1)
 
           go : (u : Bool) → b k p ≡ u → cond u (at k) (at p) ≡ at i → (j ≡ k) ⊎ (j < k) → b j i ≡ false
-          go true f q (inl x) = let z : k ≡ i = cc in let f = R .irrefl k (omega arith) in cc
+          go true f q (inl x) = let z : k ≡ i = cc in let f = R .irrefl k here in cc
           go true f q (inr o) = let z : k ≡ i = cc in rw (← z) (turn (b j k) refl (ih p refl o))
             where
               turn : (v : Bool) → b j k ≡ v → b j p ≡ false → v ≡ false
-              turn true d n = clash (b j p) (R .trans j k p (omega arith) (omega arith) (omega (arith, below)) d f) n
+              turn true d n = clash (b j p) (R .trans j k p (P-of j (omega arith) y) here best d f) n
               turn false d n = refl
           go false f q (inl x) = let z : p ≡ i = cc in cc
           go false f q (inr o) = let z : p ≡ i = cc in rw (← z) (ih p refl o)
@@ -113,24 +116,25 @@ module _ (c : ℕ → Bool) (b : ℕ → ℕ → Bool) (m : ℕ) (R : Ranks b m)
   unfolding scan
   scan-earliest zero i j w h l y = let z : _≡_ {A = ℕ} 0 1 = cc in absurd (omega arith)
   scan-earliest (suc k) i j w h l y =
-      step (c k) (scan c b k) (λ x e. scan-earliest k x j (omega arith) e) (λ x e o. scan-least k x j (omega arith) e o y)
+      step (c k) refl (scan c b k) (λ x e. scan-earliest k x j (omega arith) e) (λ x e o. scan-least k x j (omega arith) e o y)
       (λ o. scan-complete c b k j o y) (λ x. scan-sound c b k x) h
     where
-      step : (t : Bool) (r : Pick) → ((x : ℕ) → r ≡ at x → j < x → c j ≡ true → b x j ≡ true) → ((x : ℕ) → r ≡ at x → j < k → b j x ≡ false)
-          → (j < k → r ≡ nobody → ⊥) → ((x : ℕ) → r ≡ at x → (x < k) × (c x ≡ true)) → cond t (against b k r) r ≡ at i → b i j ≡ true
-      step false r ih le em so g = ih i g l y
-      step true nobody ih le em so g = let z : k ≡ i = cc in absurd (em (omega arith) refl)
-      step true (at p) ih le em so g = go (b k p) refl g
+      step : (t : Bool) → c k ≡ t → (r : Pick) → ((x : ℕ) → r ≡ at x → j < x → c j ≡ true → b x j ≡ true)
+          → ((x : ℕ) → r ≡ at x → j < k → b j x ≡ false) → (j < k → r ≡ nobody → ⊥) → ((x : ℕ) → r ≡ at x → (x < k) × (c x ≡ true))
+          → cond t (against b k r) r ≡ at i → b i j ≡ true
+      step false e r ih le em so g = ih i g l y
+      step true e nobody ih le em so g = let z : k ≡ i = cc in absurd (em (omega arith) refl)
+      step true e (at p) ih le em so g = go (b k p) refl g
         where
-          below : p < k
-          below = so p refl .0
+          best : P p
+          best = let f = so p refl in P-of p (omega (arith, f .0)) (f .1)
 
           go : (u : Bool) → b k p ≡ u → cond u (at k) (at p) ≡ at i → b i j ≡ true
           go true f q = let z : k ≡ i = cc in rw (← z) (turn (b k j) refl (omega arith) (le p refl (omega arith)))
             where
               turn : (v : Bool) → b k j ≡ v → j < k → b j p ≡ false → v ≡ true
               turn true d o n = refl
-              turn false d o n = clash (b k p) f (R .weak k j p (omega arith) (omega arith) (omega (arith, below)) d n)
+              turn false d o n = clash (b k p) f (R .weak k j p (P-of k (omega arith) e) (P-of j (omega arith) y) best d n)
           go false f q = let z : p ≡ i = cc in rw (← z) (ih p refl (omega arith) y)
 
 -- a scan depends only on what its tests say of the indices below n
