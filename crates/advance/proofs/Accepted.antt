@@ -1,5 +1,5 @@
 -- What `next` recommends is done: the mechanism's own calls accept it, and do what an advance does of it. Assumes nothing.
-use Prim.Native.Nat.{ℕ, _/_, _%_, _<_}
+use Prim.Native.Nat.{ℕ, _/_, _%_}
 use mathlib.Core.Bool.{Bool, true, false, cond}
 use mathlib.Core.Path.{_≡_, refl, sym, _∙_, ap}
 use native.Mathlib.Omega.{arith}
@@ -7,7 +7,7 @@ use borrow.Author.Tests.{lt-ltb}
 use Rattle.system.specs.declared.System.{System}
 use Rattle.system.specs.declared.Answer.the-variants.{Unsound}
 use Rattle.system.specs.Answers.{told, Outcome}
-use Rattle.system.specs.Reads.{domains, vcpus, pcpus, slot, vcpuAt, occupantAt, fullAffinity}
+use Rattle.system.specs.Reads.{domains, vcpus, pcpus, vcpuAt, occupantAt, fullAffinity}
 use Rattle.verdict.specs.Violations.{invariantsHold}
 use Rattle.verdict.specs.Sound.{Present, Sound, sound-iff}
 use Rattle.sched.specs.declared.Request.{Request}

@@ -2,10 +2,10 @@
 -- off the sum. Assumes nothing.
 use Prim.Native.Nat.{ℕ, suc, _+_, _-_, _*_, _/_, _%_, _≤_, _<_, min}
 use mathlib.Core.Bool.{Bool, true, false, cond, _&&_}
-use mathlib.Core.Path.{_≡_, refl, sym, _∙_, ap}
+use mathlib.Core.Path.{_≡_, refl, sym, ap}
 use mathlib.Core.Logic.{_≢_}
 use native.Mathlib.Omega.{arith}
-use borrow.Author.Tests.{le-leb, lt-leb}
+use borrow.Author.Tests.{lt-leb}
 use Rattle.system.specs.declared.RunState.the-variants.{Runnable}
 use Rattle.system.specs.declared.VirtualCpu.{VirtualCpu}
 use Rattle.system.specs.declared.Occupant.{Occupant}
@@ -14,15 +14,15 @@ use Rattle.system.specs.declared.System.{System}
 use Rattle.system.specs.Reads.{vcpus, pcpus, slot, vcpuAt, occupantAt}
 use Rattle.system.specs.Writes.{Tables, Wrote}
 use Rattle.verdict.specs.Sound.{OnPcpu, Sound}
-use Rattle.sched.specs.Records.{elapsed, dispatched, left}
+use Rattle.sched.specs.Records.{dispatched, left}
 use Rattle.sched.proofs.Legal.{same-pcpus, slot-of}
 use Rattle.sched.specs.CanRun.{CanRun}
 use Rattle.moves.specs.declared.Choice.the-variants.{Run, Preempt}
 use Rattle.policy.specs.declared.Scheduler.{Scheduler}
 use Rattle.policy.specs.Standing.{present}
-use Rattle.advance.specs.Choices.{isExpired, standings}
+use Rattle.advance.specs.Choices.{standings}
 use Rattle.advance.specs.Advance.{enacted}
-use Rattle.advance.specs.ChoiceLaws.{CanPreempt, present-is, can-hot}
+use Rattle.advance.specs.ChoiceLaws.{CanPreempt, can-hot}
 use Rattle.advance.proofs.Enacted.{run-wrote, preempt-wrote}
 use Rattle.advance.proofs.Sum.{sum, sum-bound, sum-change}
 

@@ -23,7 +23,7 @@ use Rattle.moves.specs.declared.Choice.{Choice}
 use Rattle.moves.specs.declared.Choice.the-variants.{Run, Preempt, Rest}
 use Rattle.policy.specs.declared.Scheduler.{Scheduler}
 use Rattle.policy.specs.Accounts.{offsetOf}
-use Rattle.policy.specs.Standing.{slots, weightAt, inFlight, flight}
+use Rattle.policy.specs.Standing.{weightAt, inFlight, flight}
 use Rattle.advance.specs.Choices.{choice}
 use Rattle.policy.specs.Accounting.{schedulable, pooled}
 use Rattle.advance.specs.Advance.{enacted}

@@ -15,7 +15,7 @@ use Rattle.system.specs.declared.Occupant.{Occupant}
 use Rattle.system.specs.declared.Occupant.the-variants.{Idle, Vcpu}
 use Rattle.system.specs.declared.System.{System}
 use Rattle.system.specs.declared.Answer.{Answer}
-use Rattle.system.specs.declared.Answer.the-variants.{WrongState, PcpuBusy, NotAffine}
+use Rattle.system.specs.declared.Answer.the-variants.{PcpuBusy, NotAffine}
 use Rattle.system.specs.Answers.{told, Outcome}
 use Rattle.system.specs.Reads.{vcpuAt, isIdle}
 use Rattle.system.specs.Writes.{Tables, Wrote, wrote-vcpu, wrote-both}
@@ -24,7 +24,7 @@ use Rattle.sched.specs.declared.Request.{Request}
 use Rattle.sched.specs.declared.Change.{Change}
 use Rattle.sched.specs.declared.Change.the-variants.{Refuse, Write, Move}
 use Rattle.sched.specs.Records.{withState, withMask, dispatched, left}
-use Rattle.sched.specs.Steps.{admitted, preempted, blocked, woken, masked, offlined, ran, changed, applied}
+use Rattle.sched.specs.Steps.{wrongState, admitted, preempted, blocked, woken, masked, offlined, ran, changed, applied}
 use Rattle.sched.proofs.Legal.{NotRunning, Legal, goes-on, comes-off, slot-below, present-back}
 use Rattle.sched.proofs.Requests.{off-nr, ready-nr, blocked-nr}
 use Rattle.host.specs.Book.{Line, Book, noted, marked, remasked, opened, closed, Note, refuse, write, Entry, entered, admitNote, runNote, preemptNote, blockNote, wakeNote, offlineNote, maskNote}
@@ -70,26 +70,26 @@ requestNote l (Request.Offline now) full = offlineNote l full now (l .state)
 module _ {l : Line} {v : VirtualCpu} (y : Says l v) where
   admit-match : (st : RunState) → v .state ≡ st → Match (admitted v st) (admitNote l st)
   admit-match Offline e = both-write (in-state y Runnable ready-nr)
-  admit-match Runnable e = both-refuse WrongState
-  admit-match (Running p) e = both-refuse WrongState
-  admit-match Blocked e = both-refuse WrongState
+  admit-match Runnable e = both-refuse (wrongState Runnable)
+  admit-match (Running p) e = both-refuse (wrongState (Running p))
+  admit-match Blocked e = both-refuse (wrongState Blocked)
 
   preempt-match : (now : ℕ) (st : RunState) → v .state ≡ st → Match (preempted v now st) (preemptNote l now st)
-  preempt-match now Offline e = both-refuse WrongState
-  preempt-match now Runnable e = both-refuse WrongState
+  preempt-match now Offline e = both-refuse (wrongState Offline)
+  preempt-match now Runnable e = both-refuse (wrongState Runnable)
   preempt-match now (Running p) e = both-move (off-pcpu y p now Runnable e ready-nr)
-  preempt-match now Blocked e = both-refuse WrongState
+  preempt-match now Blocked e = both-refuse (wrongState Blocked)
 
   block-match : (now : ℕ) (st : RunState) → v .state ≡ st → Match (blocked v now st) (blockNote l now st)
-  block-match now Offline e = both-refuse WrongState
+  block-match now Offline e = both-refuse (wrongState Offline)
   block-match now Runnable e = both-write (in-state y Blocked blocked-nr)
   block-match now (Running p) e = both-move (off-pcpu y p now Blocked e blocked-nr)
-  block-match now Blocked e = both-refuse WrongState
+  block-match now Blocked e = both-refuse (wrongState Blocked)
 
   wake-match : (st : RunState) → v .state ≡ st → Match (woken v st) (wakeNote l st)
-  wake-match Offline e = both-refuse WrongState
-  wake-match Runnable e = both-refuse WrongState
-  wake-match (Running p) e = both-refuse WrongState
+  wake-match Offline e = both-refuse (wrongState Offline)
+  wake-match Runnable e = both-refuse (wrongState Runnable)
+  wake-match (Running p) e = both-refuse (wrongState (Running p))
   wake-match Blocked e = both-write (in-state y Runnable ready-nr)
 
   mask-match : (m : ℕ) (st : RunState) → v .state ≡ st → Match (masked v m st) (maskNote l m st)
@@ -103,7 +103,7 @@ module _ {l : Line} {v : VirtualCpu} (y : Says l v) where
   mask-match m Blocked e = both-write (new-mask y m)
 
   offline-match : (full now : ℕ) (st : RunState) → v .state ≡ st → Match (offlined v full now st) (offlineNote l full now st)
-  offline-match full now Offline e = both-refuse WrongState
+  offline-match full now Offline e = both-refuse (wrongState Offline)
   offline-match full now Runnable e = both-write (new-mask (in-state y Offline off-nr) full)
   offline-match full now (Running p) e = both-move (new-mask (off-pcpu y p now Offline e off-nr) full)
   offline-match full now Blocked e = both-write (new-mask (in-state y Offline off-nr) full)
@@ -131,12 +131,12 @@ module _ {l : Line} {v : VirtualCpu} (y : Says l v) where
       free false x c e = both-refuse NotAffine
 
       go : (st : RunState) → Match (ran v d u p o now st) (runNote l p busy now st)
-      go Offline = both-refuse WrongState
+      go Offline = both-refuse (wrongState Offline)
       go Runnable =
           subst (λ (m : ℕ). Match (ran v d u p o now Runnable) (cond (permits m p) (cond busy (refuse 5) (write (opened l p now))) (refuse 6))) (sym (y .mask))
           (free (permits (v .affinity) p) o busy f)
-      go (Running q) = both-refuse WrongState
-      go Blocked = both-refuse WrongState
+      go (Running q) = both-refuse (wrongState (Running q))
+      go Blocked = both-refuse (wrongState Blocked)
 
 -- ---- what matches is told the same and leaves what agrees
 

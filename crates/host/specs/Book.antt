@@ -83,38 +83,42 @@ abbrev pub identified : Shape → Book → ℕ → ℕ → Note → Entry
 identified k b d v n =
     cond (ltb d (k .domains)) (cond (ltb v (k .vcpus)) (entered b (d * 8 + v) n) (record { number = 2; book = b })) (record { number = 1; book = b })
 
+-- a vCPU found in a state that the call does not accept
+abbrev pub wrong : RunState → Note
+wrong st = refuse 4
+
 abbrev pub admitNote : Line → RunState → Note
 admitNote l Offline = write (marked l Runnable)
-admitNote l Runnable = refuse 4
-admitNote l (Running p) = refuse 4
-admitNote l Blocked = refuse 4
+admitNote l Runnable = wrong Runnable
+admitNote l (Running p) = wrong (Running p)
+admitNote l Blocked = wrong Blocked
 
 abbrev pub runNote : Line → ℕ → Bool → ℕ → RunState → Note
-runNote l p busy now Offline = refuse 4
+runNote l p busy now Offline = wrong Offline
 runNote l p busy now Runnable = cond (permits (l .mask) p) (cond busy (refuse 5) (write (opened l p now))) (refuse 6)
-runNote l p busy now (Running q) = refuse 4
-runNote l p busy now Blocked = refuse 4
+runNote l p busy now (Running q) = wrong (Running q)
+runNote l p busy now Blocked = wrong Blocked
 
 abbrev pub preemptNote : Line → ℕ → RunState → Note
-preemptNote l now Offline = refuse 4
-preemptNote l now Runnable = refuse 4
+preemptNote l now Offline = wrong Offline
+preemptNote l now Runnable = wrong Runnable
 preemptNote l now (Running p) = write (closed l Runnable now)
-preemptNote l now Blocked = refuse 4
+preemptNote l now Blocked = wrong Blocked
 
 abbrev pub blockNote : Line → ℕ → RunState → Note
-blockNote l now Offline = refuse 4
+blockNote l now Offline = wrong Offline
 blockNote l now Runnable = write (marked l Blocked)
 blockNote l now (Running p) = write (closed l Blocked now)
-blockNote l now Blocked = refuse 4
+blockNote l now Blocked = wrong Blocked
 
 abbrev pub wakeNote : Line → RunState → Note
-wakeNote l Offline = refuse 4
-wakeNote l Runnable = refuse 4
-wakeNote l (Running p) = refuse 4
+wakeNote l Offline = wrong Offline
+wakeNote l Runnable = wrong Runnable
+wakeNote l (Running p) = wrong (Running p)
 wakeNote l Blocked = write (marked l Runnable)
 
 abbrev pub offlineNote : Line → ℕ → ℕ → RunState → Note
-offlineNote l full now Offline = refuse 4
+offlineNote l full now Offline = wrong Offline
 offlineNote l full now Runnable = write (remasked (marked l Offline) full)
 offlineNote l full now (Running p) = write (remasked (closed l Offline now) full)
 offlineNote l full now Blocked = write (remasked (marked l Offline) full)

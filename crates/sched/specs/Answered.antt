@@ -1,12 +1,11 @@
 -- Every call on every system, damaged or not: a listed number is told, and a refused call changes nothing. Assumes nothing.
-use Prim.Native.Nat.{ℕ, _≤_}
+use Prim.Native.Nat.{ℕ}
 use mathlib.Core.Bool.{Bool, true, false, cond}
 use mathlib.Core.Path.{_≡_, refl}
-use native.Mathlib.Omega.{arith}
 use lib.Dec.{ltb}
 use Rattle.system.specs.declared.System.{System}
 use Rattle.system.specs.declared.Answer.{Answer}
-use Rattle.system.specs.declared.Answer.the-variants.{Done, BadDomain, BadVcpu, BadPcpu, WrongState, PcpuBusy, NotAffine, TooLarge, Unsound, BadScript}
+use Rattle.system.specs.declared.Answer.the-variants.{Done, BadDomain, BadVcpu, BadPcpu, Unsound}
 use Rattle.system.specs.Answers.{told, Outcome}
 use Rattle.system.specs.Reads.{domains, vcpus, pcpus, slot, vcpuAt, occupantAt, vcpuCount, fullAffinity}
 use Rattle.verdict.specs.Violations.{invariantsHold}
@@ -15,27 +14,17 @@ use Rattle.sched.specs.declared.Change.{Change}
 use Rattle.sched.specs.declared.Change.the-variants.{Refuse, Write, Move}
 use Rattle.sched.specs.Steps.{refused, changed, ran, applied, found, requested, run, offlineFirst, offlineAll}
 
+-- a listed answer is told, and a number other than 0 leaves the system as it was
 pub record Answered (s : System) (r : Outcome) : Type 0 where
-  pub listed : r .number ≤ 9
+  pub answer : Answer
+  pub listed : r .number ≡ told answer
   pub refused : (r .number ≡ 0 → ⊥) → r .system ≡ s
 
-told-listed : (a : Answer) → told a ≤ 9
-told-listed Done = omega arith
-told-listed BadDomain = omega arith
-told-listed BadVcpu = omega arith
-told-listed BadPcpu = omega arith
-told-listed WrongState = omega arith
-told-listed PcpuBusy = omega arith
-told-listed NotAffine = omega arith
-told-listed TooLarge = omega arith
-told-listed Unsound = omega arith
-told-listed BadScript = omega arith
-
 told-refused : (s : System) (a : Answer) → Answered s (refused a s)
-told-refused s a = record { listed = told-listed a; refused = λ n. refl }
+told-refused s a = record { answer = a; listed = refl; refused = λ n. refl }
 
 told-done : (s t : System) → Answered s (record { number = 0; system = t })
-told-done s t = record { listed = omega arith; refused = λ n. absurd (n refl) }
+told-done s t = record { answer = Done; listed = refl; refused = λ n. absurd (n refl) }
 
 applied-answered : (s : System) (i : ℕ) (c : Change) → Answered s (applied s i c)
 unfolding applied
