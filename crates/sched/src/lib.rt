@@ -222,7 +222,8 @@ fn ran(v: VirtualCpu, dom: DomId, vcpu: Vcpu, pcpu: Pcpu, held: PhysicalCpu, now
         RunState::Runnable => {
             let o = held.occupant;
             let free = is_idle(o);
-            if !masks::mask_permits(v.affinity, pcpu) {
+            let admits = masks::mask_permits(v.affinity, pcpu);
+            if !admits {
                 return Change::Refuse(Answer::NotAffine);
             }
             if !free {
