@@ -57,7 +57,7 @@ heat s π now p = heatOf s π now (occupantAt s p)
 unfoldable pub heats : System → Scheduler → ℕ → ℕ
 heats s π now = sum (heat s π now) (pcpus s)
 
-heat-le : (s : System) (π : Scheduler) (now : ℕ) (o : Occupant) → heatOf s π now o ≤ 2
+pub heat-le : (s : System) (π : Scheduler) (now : ℕ) (o : Occupant) → heatOf s π now o ≤ 2
 heat-le s π now Idle = omega arith
 heat-le s π now (Vcpu d v) = go (hot s π now (slot d v))
   where
@@ -69,28 +69,37 @@ pub heats-le : (s : System) (π : Scheduler) (now : ℕ) → heats s π now ≤ 
 unfolding heats heat
 heats-le s π now = sum-bound (heat s π now) 2 (pcpus s) (λ p. heat-le s π now (occupantAt s p))
 
--- a write of slot i and pCPU p changes the heat of p alone, where i holds no other pCPU
-heats-change : {s s′ : System} {i p : ℕ} {v : VirtualCpu} {o : Occupant} (π : Scheduler) (now : ℕ) → Wrote s s′ i v p o → p < pcpus s
+-- a move on pCPU p takes one off its heat, and leaves that of the others
+pub record Cools (s s′ : System) (π : Scheduler) (now p : ℕ) : Type 0 where
+  pub exists : p < pcpus s
+  pub pcpus : Rattle.system.specs.Reads.pcpus s′ ≡ Rattle.system.specs.Reads.pcpus s
+  pub here : suc (heat s′ π now p) ≡ heat s π now p
+  pub there : (q : ℕ) → q < Rattle.system.specs.Reads.pcpus s → q ≢ p → heat s π now q ≡ heat s′ π now q
+
+pub cools-sum : {s s′ : System} {π : Scheduler} {now p : ℕ} → Cools s s′ π now p → suc (heats s′ π now) ≡ heats s π now
+unfolding heats
+cools-sum {s} {s′} {π} {now} {p} c =
+    omega (arith, ap (sum (heat s′ π now)) (c .pcpus), sum-change (heat s π now) (heat s′ π now) (pcpus s) p (c .exists) (c .there), c .here)
+
+-- a write of slot i and pCPU p leaves the heat of the other pCPUs, where i holds none of them
+elsewhere : {s s′ : System} {i p : ℕ} {v : VirtualCpu} {o : Occupant} (π : Scheduler) (now : ℕ) → Wrote s s′ i v p o
     → ((q d u : ℕ) → q < pcpus s → q ≢ p → occupantAt s q ≡ Vcpu d u → slot d u ≢ i)
-    → heats s π now + heat s′ π now p ≡ heats s′ π now + heat s π now p
-unfolding heats heat
-heats-change {s} {s′} {i} {p} {v} {o} π now w l alone =
-    omega (arith, ap (sum (heat s′ π now)) (same-pcpus (w .shape)), sum-change (heat s π now) (heat s′ π now) (pcpus s) p l same)
+    → (q : ℕ) → q < pcpus s → q ≢ p → heat s π now q ≡ heat s′ π now q
+unfolding heat
+elsewhere {s} {s′} {i} {p} {v} {o} π now w alone q m n = rw (w .others q n) (by (occupantAt s q) refl)
   where
-    by : (q : ℕ) → q < pcpus s → q ≢ p → (x : Occupant) → occupantAt s q ≡ x → heatOf s π now x ≡ heatOf s′ π now x
-    by q m n Idle e = refl
-    by q m n (Vcpu d u) e =
+    by : (x : Occupant) → occupantAt s q ≡ x → heatOf s π now x ≡ heatOf s′ π now x
+    by Idle e = refl
+    by (Vcpu d u) e =
         let j = slot d u in
         let e = hot-same s s′ π now j (ap (λ (k : ℕ). min k 8) (w .shape .vcpus)) (w .there j (alone q d u m n e)) in
         ap (λ (b : Bool). cond b 2 0) (sym e)
 
-    same : (q : ℕ) → q < pcpus s → q ≢ p → heat s π now q ≡ heat s′ π now q
-    same q m n = rw (w .others q n) (by q m n (occupantAt s q) refl)
-
-pub run-heats : (s : System) (π : Scheduler) (now i p : ℕ) → 1 ≤ π .quantum → Tables s → Sound s → CanRun s i p
-    → suc (heats ((enacted s now (Run i p)) .system) π now) ≡ heats s π now
+pub run-cools : (s : System) (π : Scheduler) (now i p : ℕ) → 1 ≤ π .quantum → Tables s → Sound s → CanRun s i p
+    → Cools s ((enacted s now (Run i p)) .system) π now p
 unfolding heat
-run-heats s π now i p h t S c = omega (arith, heats-change π now w (c .exists) alone, before, after)
+run-cools s π now i p h t S c =
+    record { exists = c .exists; pcpus = same-pcpus (w .shape); here = omega (arith, before, after); there = elsewhere π now w alone }
   where
     s′ : System
     s′ = (enacted s now (Run i p)) .system
@@ -107,10 +116,11 @@ run-heats s π now i p h t S c = omega (arith, heats-change π now w (c .exists)
     after : heat s′ π now p ≡ 0
     after = rw (w .onto, slot-of i, dispatched-cold s′ π now i p (vcpuAt s i) h (w .here))
 
-pub preempt-heats : (s : System) (π : Scheduler) (now i p : ℕ) → Tables s → Sound s → CanPreempt s π now i p
-    → suc (heats ((enacted s now (Preempt i p)) .system) π now) ≡ heats s π now
+pub preempt-cools : (s : System) (π : Scheduler) (now i p : ℕ) → Tables s → Sound s → CanPreempt s π now i p
+    → Cools s ((enacted s now (Preempt i p)) .system) π now p
 unfolding heat
-preempt-heats s π now i p t S c = omega (arith, heats-change π now w (o .exists) alone, before, after)
+preempt-cools s π now i p t S c =
+    record { exists = o .exists; pcpus = same-pcpus (w .shape); here = omega (arith, before, after); there = elsewhere π now w alone }
   where
     s′ : System
     s′ = (enacted s now (Preempt i p)) .system

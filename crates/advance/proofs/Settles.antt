@@ -1,12 +1,16 @@
 -- An advance makes at most two moves a pCPU and ends where no move is left, so that nobody waits beside an idle pCPU that its
 -- mask admits. Assumes nothing.
 use Prim.Native.Nat.{ℕ, zero, suc, _+_, _*_, _≤_, _<_}
-use mathlib.Core.Path.{_≡_, refl}
+use mathlib.Core.Path.{_≡_, refl, sym}
+use mathlib.Core.Bool.{cond}
 use mathlib.Core.List.{List, [], _∷_}
 use native.Mathlib.Omega.{arith}
+use native.Mathlib.Decide.{ℕ-discrete}
+use lib.Dec.{eqb}
 use lib.ListN.{length}
+use borrow.Author.Tests.{eq-eqb, ne-eqb}
 use Rattle.system.specs.declared.System.{System}
-use Rattle.system.specs.Reads.{pcpus}
+use Rattle.system.specs.Reads.{pcpus, occupantAt}
 use Rattle.system.specs.Writes.{Tables}
 use Rattle.verdict.specs.Sound.{Sound}
 use Rattle.sched.specs.CanRun.{CanRun}
@@ -16,10 +20,10 @@ use Rattle.moves.specs.declared.Choice.{Choice}
 use Rattle.moves.specs.declared.Choice.the-variants.{Run, Preempt, Rest}
 use Rattle.policy.specs.declared.Scheduler.{Scheduler}
 use Rattle.advance.specs.Choices.{choice}
-use Rattle.advance.specs.Advance.{enacted, goOn, settle, limit}
+use Rattle.advance.specs.Advance.{enacted, goOn, settle, movesOn, limit}
 use Rattle.advance.specs.ChoiceLaws.{CanPreempt, choice-run, choice-complete, choice-preempt}
 use Rattle.advance.proofs.Enacted.{run-keeps, preempt-keeps}
-use Rattle.advance.proofs.Heat.{heats, heats-le, run-heats, preempt-heats}
+use Rattle.advance.proofs.Heat.{heat, heats, heat-le, heats-le, Cools, cools-sum, run-cools, preempt-cools}
 
 -- Moves made one after another, each the choice where it is made and each one that may be made.
 pub data Trace (π : Scheduler) (now : ℕ) : System → List Choice → System → Type 0 where
@@ -57,13 +61,38 @@ module _ {π : Scheduler} {now : ℕ} where
   trace-heat rest h t S = omega arith
   trace-heat (run {s} {i = i} {p = p} e c r) h t S =
       let k = run-keeps s now i p t S c in
-      omega (arith, trace-heat r h (k .shape .tables t) (k .sound), run-heats s π now i p h t S c)
+      omega (arith, trace-heat r h (k .shape .tables t) (k .sound), cools-sum (run-cools s π now i p h t S c))
   trace-heat (preempt {s} {i = i} {p = p} e c r) h t S =
       let k = preempt-keeps s now i p π t S c in
-      omega (arith, trace-heat r h (k .shape .tables t) (k .sound), preempt-heats s π now i p t S c)
+      omega (arith, trace-heat r h (k .shape .tables t) (k .sound), cools-sum (preempt-cools s π now i p t S c))
 
   pub trace-few : {s t : System} {cs : List Choice} → Trace π now s cs t → 1 ≤ π .quantum → Tables s → Sound s → length cs ≤ 2 * pcpus s
   trace-few {s} r h t S = omega (arith, trace-heat r h t S, heats-le s π now)
+
+  -- and one off that of its pCPU
+  cools-on : {s s′ : System} {p : ℕ} → Cools s s′ π now p → (q : ℕ) → q < pcpus s → cond (eqb p q) 1 0 + heat s′ π now q ≡ heat s π now q
+  cools-on {s} {s′} {p} c q l = go (ℕ-discrete p q)
+    where
+      go : Dec (p ≡ q) → cond (eqb p q) 1 0 + heat s′ π now q ≡ heat s π now q
+      go (yes e) = rw (← e, eq-eqb p p refl) (omega (arith, c .here))
+      go (no n) = rw (ne-eqb p q n) (omega (arith, c .there q l (λ f. n (sym f))))
+
+  trace-heat-on : {s t : System} {cs : List Choice} (q : ℕ) → q < pcpus s → Trace π now s cs t → 1 ≤ π .quantum → Tables s → Sound s
+      → movesOn q cs + heat t π now q ≡ heat s π now q
+  unfolding movesOn
+  trace-heat-on q l rest h t S = omega arith
+  trace-heat-on q l (run {s} {i = i} {p = p} e c r) h t S =
+      let k = run-keeps s now i p t S c in
+      let x = run-cools s π now i p h t S c in
+      omega (arith, cools-on x q l, trace-heat-on q (omega (arith, x .pcpus)) r h (k .shape .tables t) (k .sound))
+  trace-heat-on q l (preempt {s} {i = i} {p = p} e c r) h t S =
+      let k = preempt-keeps s now i p π t S c in
+      let x = preempt-cools s π now i p t S c in
+      omega (arith, cools-on x q l, trace-heat-on q (omega (arith, x .pcpus)) r h (k .shape .tables t) (k .sound))
+
+  pub trace-two : {s t : System} {cs : List Choice} (q : ℕ) → q < pcpus s → Trace π now s cs t → 1 ≤ π .quantum → Tables s → Sound s → movesOn q cs ≤ 2
+  unfolding heat
+  trace-two {s} q l r h t S = omega (arith, trace-heat-on q l r h t S, heat-le s π now (occupantAt s q))
 
 -- with more fuel than heat, settling ends at rest
 settle-rests : (π : Scheduler) (now k : ℕ) (s : System) → 1 ≤ π .quantum → Tables s → Sound s → heats s π now < k
@@ -78,11 +107,11 @@ settle-rests π now (suc k) s h t S l = go (choice s π now) refl (λ u. settle-
     go (Run i p) e ih =
         let c = choice-run s π now i p e in
         let m = run-keeps s now i p t S c in
-        ih _ (m .shape .tables t) (m .sound) (omega (arith, run-heats s π now i p h t S c))
+        ih _ (m .shape .tables t) (m .sound) (omega (arith, cools-sum (run-cools s π now i p h t S c)))
     go (Preempt i p) e ih =
         let c = choice-preempt s π now i p e in
         let m = preempt-keeps s now i p π t S c in
-        ih _ (m .shape .tables t) (m .sound) (omega (arith, preempt-heats s π now i p t S c))
+        ih _ (m .shape .tables t) (m .sound) (omega (arith, cools-sum (preempt-cools s π now i p t S c)))
     go Rest e ih = e
 
 -- the fuel of an advance is enough

@@ -2,6 +2,7 @@
 use Prim.Native.Nat.{ℕ, zero, suc, _+_, _*_, _/_, _%_}
 use mathlib.Core.Bool.{cond}
 use mathlib.Core.List.{List, [], _∷_}
+use lib.Dec.{eqb}
 use Rattle.system.specs.declared.System.{System}
 use Rattle.system.specs.declared.Answer.the-variants.{Unsound}
 use Rattle.system.specs.Answers.{told, Outcome}
@@ -55,6 +56,16 @@ goOn rest s now Rest = record { system = s; moves = [] }
 unfoldable pub settle : Scheduler → ℕ → ℕ → System → Settled
 settle π now zero s = record { system = s; moves = [] }
 settle π now (suc k) s = goOn (λ t. settle π now k t) s now (choice s π now)
+
+-- how many of a list's moves are on pCPU p
+abbrev pub onPcpu : ℕ → Choice → ℕ
+onPcpu p (Run i q) = cond (eqb q p) 1 0
+onPcpu p (Preempt i q) = cond (eqb q p) 1 0
+onPcpu p Rest = 0
+
+unfoldable pub movesOn : ℕ → List Choice → ℕ
+movesOn p [] = 0
+movesOn p (c ∷ cs) = onPcpu p c + movesOn p cs
 
 -- vCPUs + 2 × pCPUs + 1
 abbrev pub limit : System → ℕ

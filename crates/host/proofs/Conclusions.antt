@@ -25,13 +25,14 @@ use Rattle.moves.specs.Scan.{nobody}
 use Rattle.policy.specs.declared.Account.{Account}
 use Rattle.policy.specs.declared.Scheduler.{Scheduler}
 use Rattle.policy.specs.Accounts.{blankAccount, plain, covers, accountAt, accountOf, freshPolicy}
-use Rattle.policy.specs.Accounting.{schedulable}
+use Rattle.policy.specs.Accounting.{schedulable, accounted}
 use Rattle.policy.proofs.AccountLaws.{covers-below}
 use Rattle.sched.specs.Keeps.{runtimeAt}
 use Rattle.policy.specs.Standing.{weightAt, inFlight, flight}
+use Rattle.advance.specs.Advance.{movesOn}
 use Rattle.advance.proofs.Exact.{rawService}
 use Rattle.advance.proofs.Lag.{Lag, raw-waiting}
-use Rattle.advance.proofs.Settles.{trace-few, rest-quiet}
+use Rattle.advance.proofs.Settles.{trace-few, trace-two, rest-quiet}
 use Rattle.host.specs.declared.Host.{Host}
 use Rattle.host.specs.declared.Call.{Call}
 use Rattle.host.specs.Step.{step, after, freshHost}
@@ -133,10 +134,18 @@ module _ {k : Shape} {b : Book} {h : Host} (K : Kept k b h) where
   pub point-agrees : Agrees k b s
   point-agrees = agrees (K .in-step .shaped) (K .in-step .sound) (K .in-step .lines)
 
+  sliced : (now : ℕ) → 1 ≤ (accounted (h .system) (h .scheduler) now) .quantum
+  sliced now = omega (arith, K .slice, accounted-slice (h .system) (h .scheduler) now)
+
   pub few-moves : (now : ℕ) → length ((step h (Call.Advance now)) .moves) ≤ 2 * k .pcpus
   few-moves now =
       let A = advance-rests-here now K in
-      omega (arith, trace-few (A .trace) (omega (arith, K .slice, accounted-slice (h .system) (h .scheduler) now)) (K .in-step .tables) (K .in-step .sound), pcpus-same)
+      omega (arith, trace-few (A .trace) (sliced now) (K .in-step .tables) (K .in-step .sound), pcpus-same)
+
+  pub two-moves : (now p : ℕ) → p < k .pcpus → movesOn p ((step h (Call.Advance now)) .moves) ≤ 2
+  two-moves now p l =
+      let A = advance-rests-here now K in
+      trace-two p (omega (arith, pcpus-same)) (A .trace) (sliced now) (K .in-step .tables) (K .in-step .sound)
 
   -- the book's service is the system's
   service-same : (r i : ℕ) → Present s i → bookService b r i ≡ rawService s r i

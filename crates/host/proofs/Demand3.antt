@@ -18,7 +18,7 @@ use Rattle.host.specs.Demand3.{EveryFreshHost}
 use Rattle.host.proofs.Along.{Kept, step-goes}
 use Rattle.host.proofs.Pooling.{Pooling}
 use Rattle.host.proofs.PoolAlong.{list-along}
-use Rattle.host.proofs.Conclusions.{fresh-kept, fresh-prepared, after-kept, book-append, point-agrees, few-moves, quiet, after-slice, point-lag}
+use Rattle.host.proofs.Conclusions.{fresh-kept, fresh-prepared, after-kept, book-append, point-agrees, few-moves, two-moves, quiet, after-slice, point-lag}
 
 pub demand-3 : EveryFreshHost
 unfolding bookAfter
@@ -27,6 +27,7 @@ demand-3 d v p e u q hd hv hp hq cs f =
       agrees = λ before rest x. point-agrees (at-point before);
       told = λ before rest c x. step-goes c (at-point before) .number;
       moves = λ before rest now x. few-moves (at-point before) now;
+      moves-on = λ before rest now x. two-moves (at-point before) now;
       placed = λ before rest now x.
           subst (λ (b : Book). (i p : ℕ) → Exists k i → p < k .pcpus → (b i) .state ≡ Runnable → holder k b p ≡ nobody → permits ((b i) .mask) p ≡ true → ⊥)
           (sym (book-append k before (Call.Advance now ∷ []) h (blank k)))

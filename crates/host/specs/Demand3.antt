@@ -10,6 +10,7 @@ use Rattle.moves.specs.Scan.{nobody}
 use Rattle.policy.specs.Accounts.{offsetOf}
 use Rattle.policy.specs.Standing.{weightAt}
 use Rattle.policy.specs.Accounting.{schedulable}
+use Rattle.advance.specs.Advance.{movesOn}
 use Rattle.host.specs.declared.Host.{Host}
 use Rattle.host.specs.declared.Call.{Call}
 use Rattle.host.specs.Step.{step, after, freshHost}
@@ -26,9 +27,11 @@ pub record Demand-3 (k : Shape) (h : Host) (cs : List Call) : Type 0 where
   -- a call is told by the system what it is told by the book
   pub told : (before rest : List Call) (c : Call) → cs ≡ before ++ (c ∷ rest)
       → (step (after h before) c) .number ≡ (enter k (bookAfter k h (blank k) before) c ((step (after h before) c) .moves)) .number
-  -- every advance makes at most two moves a pCPU
+  -- every advance makes at most two moves a pCPU: twice as many in all as there are pCPUs, and two on each
   pub moves : (before rest : List Call) (now : ℕ) → cs ≡ before ++ (Call.Advance now ∷ rest)
       → length ((step (after h before) (Call.Advance now)) .moves) ≤ 2 * k .pcpus
+  pub moves-on : (before rest : List Call) (now : ℕ) → cs ≡ before ++ (Call.Advance now ∷ rest)
+      → (p : ℕ) → p < k .pcpus → movesOn p ((step (after h before) (Call.Advance now)) .moves) ≤ 2
   -- as it returns no vCPU waits beside an idle pCPU that its mask admits
   pub placed : (before rest : List Call) (now : ℕ) → cs ≡ before ++ (Call.Advance now ∷ rest)
       → let b = bookAfter k h (blank k) (before ++ (Call.Advance now ∷ [])) in
