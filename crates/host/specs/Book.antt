@@ -74,14 +74,18 @@ pub record Entry : Type 0 where
   pub number : ℕ
   pub book : Book
 
+-- nothing is written
+abbrev pub unwritten : ℕ → Book → Entry
+unwritten n b = record { number = n; book = b }
+
 abbrev pub entered : Book → ℕ → Note → Entry
-entered b i (refuse k) = record { number = k; book = b }
+entered b i (refuse k) = unwritten k b
 entered b i (write l) = record { number = 0; book = noted b i l }
 
 -- ids out of range: 1 for the domain, then 2 for the vCPU
 abbrev pub identified : Shape → Book → ℕ → ℕ → Note → Entry
 identified k b d v n =
-    cond (ltb d (k .domains)) (cond (ltb v (k .vcpus)) (entered b (d * 8 + v) n) (record { number = 2; book = b })) (record { number = 1; book = b })
+    cond (ltb d (k .domains)) (cond (ltb v (k .vcpus)) (entered b (d * 8 + v) n) (unwritten 2 b)) (unwritten 1 b)
 
 -- a vCPU found in a state that the call does not accept
 abbrev pub wrong : RunState → Note
@@ -152,7 +156,7 @@ unfoldable pub enter : Shape → Book → Call → List Choice → Entry
 enter k b (Call.Admit d v) ms = let l = b (d * 8 + v) in identified k b d v (admitNote l (l .state))
 enter k b (Call.Run d v p now) ms =
     let l = b (d * 8 + v) in
-    cond (ltb p (k .pcpus)) (identified k b d v (runNote l p (some (holder k b p)) now (l .state))) (record { number = 3; book = b })
+    cond (ltb p (k .pcpus)) (identified k b d v (runNote l p (some (holder k b p)) now (l .state))) (unwritten 3 b)
 enter k b (Call.Preempt d v now) ms = let l = b (d * 8 + v) in identified k b d v (preemptNote l now (l .state))
 enter k b (Call.Block d v now) ms = let l = b (d * 8 + v) in identified k b d v (blockNote l now (l .state))
 enter k b (Call.Wake d v) ms = let l = b (d * 8 + v) in identified k b d v (wakeNote l (l .state))
@@ -162,6 +166,6 @@ enter k b (Call.OfflineAll d now) ms =
     record { number = 0; book = cond (ltb d (k .domains)) (offlineLines k b d now (k .vcpus)) b }
 enter k b (Call.SetAffinity d v m) ms =
     let l = b (d * 8 + v) in identified k b d v (maskNote l (clipped m (k .pcpus)) (l .state))
-enter k b (Call.SetWeight d v w) ms = record { number = 0; book = b }
-enter k b (Call.SetWakeBoost on) ms = record { number = 0; book = b }
+enter k b (Call.SetWeight d v w) ms = unwritten 0 b
+enter k b (Call.SetWakeBoost on) ms = unwritten 0 b
 enter k b (Call.Advance now) ms = record { number = 0; book = movedAll b now ms }

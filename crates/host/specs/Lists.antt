@@ -60,7 +60,8 @@ pub data PoolRest (g : ℕ) : Host → ℕ → List Call → Type 0 where
   departs : {h : Host} {t : ℕ} {c : Call} {cs : List Call} → Departs c → PoolRest g ((step h c) .host) t cs → PoolRest g h t (c ∷ cs)
   boosts : {h : Host} {t : ℕ} {on : Bool} {cs : List Call} → PoolRest g ((step h (Call.SetWakeBoost on)) .host) t cs
       → PoolRest g h t (Call.SetWakeBoost on ∷ cs)
-  refused : {h : Host} {t : ℕ} {c : Call} {cs : List Call} → ((step h c) .number ≡ 0 → ⊥) → PoolRest g ((step h c) .host) t cs → PoolRest g h t (c ∷ cs)
+  refused : {h : Host} {t : ℕ} {c : Call} {cs : List Call} → ((step h c) .number ≡ 0 → ⊥) → PoolRest g ((step h c) .host) t cs
+      → PoolRest g h t (c ∷ cs)
 
 -- a pool is set up; then comes the first advance, at any clock
 pub data PoolList (g : ℕ) : Host → List Call → Type 0 where
