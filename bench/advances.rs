@@ -1,5 +1,4 @@
 //! The same advances as the program `bench_advance`, on upstream's mechanism and policy.
-#![allow(dead_code)]
 extern crate alloc;
 mod policy;
 mod sched;

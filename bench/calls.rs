@@ -1,5 +1,4 @@
 //! The same calls as the program `bench_calls`, on upstream's mechanism.
-#![allow(dead_code)]
 extern crate alloc;
 mod sched;
 

@@ -1,7 +1,10 @@
 #!/usr/bin/env python3
-"""Times whole scripts, reading and writing included: the port's replay beside upstream's, in turns, best of five.
+"""Times the port's programs beside upstream's, in turns, reading and writing included: the least of five runs.
 
-  bench/scripts.py PORT UPSTREAM     two programs, each run on the same records
+  bench/times.py PORT UPSTREAM     two folders
+
+PORT has bench_calls, bench_advance and replay; UPSTREAM has calls, advances and reference, which answer the same.
+bench/run makes them all.
 """
 import pathlib
 import random
@@ -14,6 +17,9 @@ import time
 BUILD, ADMIT, RUN, PREEMPT, BLOCK, WAKE, OFFLINE, MASK, WEIGHT, ADVANCE = range(10)
 FULL, SMALL = (16, 8, 64), (4, 2, 4)
 ALL = 2**64 - 1
+# an advance is timed on these shapes, so many times
+ADVANCES = [(20_000, FULL), (20_000, (16, 8, 8)), (100_000, (2, 8, 4)), (200_000, (1, 2, 1))]
+ROUNDS = 5
 
 
 def record(kind, domain=0, vcpu=0, third=0, value=0):
@@ -51,7 +57,7 @@ def repeated(*calls, times=150_000):
 
 
 def scripts():
-    """What is timed: its name and its records."""
+    """Scripts that are timed: name and records."""
     last = (15, 7)
     yield "script, 128 vCPUs on 64 pCPUs, an advance in 100 calls", steady(FULL, 1_000_000, 100)
     yield "script, 8 vCPUs on 4 pCPUs, an advance in 10 calls", steady(SMALL, 1_000_000, 10)
@@ -64,26 +70,45 @@ def scripts():
     yield "refused run", repeated(record(RUN, *last, 0, 5), record(RUN, *last, 64, 5))
 
 
+def timed(port, upstream):
+    """All that is timed: name, the two commands, what they read, how many calls that makes."""
+    rounds = 200_000
+    calls = [port / "bench_calls"], [upstream / "calls"]
+    yield "transition, 128 vCPUs on 64 pCPUs", calls, struct.pack(">I", rounds), 4 * rounds
+    advances = [port / "bench_advance"], [upstream / "advances"]
+    for times, (domains, vcpus, pcpus) in ADVANCES:
+        name = f"advance, {domains * vcpus} vCPUs on {pcpus} pCPU{'s' * (pcpus > 1)}"
+        yield name, advances, struct.pack(">IBBB", times, domains, vcpus, pcpus), times
+    replays = [port / "replay"], [upstream / "reference", "replay"]
+    for name, data in scripts():
+        yield name, replays, data, len(data) // 20
+
+
 def once(command, path):
-    with open(path, "rb") as records:
+    with open(path, "rb") as data:
         start = time.perf_counter()
-        out = subprocess.run(command, stdin=records, stdout=subprocess.PIPE, check=True).stdout
+        out = subprocess.run(command, stdin=data, stdout=subprocess.PIPE, check=True).stdout
         return time.perf_counter() - start, out
 
 
-def compare(name, data, commands, path):
-    path.write_bytes(data)
-    rounds = [[once(command, path) for command in commands] for _ in range(5)]
-    assert all(port[1] == upstream[1] for port, upstream in rounds), f"{name}: the answers differ"
-    calls = len(data) // 20
-    port, upstream = (min(r[i][0] for r in rounds) / calls * 1e9 for i in (0, 1))
+def compare(name, commands, path, calls):
+    rounds = [[once(command, path) for command in commands] for _ in range(ROUNDS)]
+    if not all(port[1] and port[1] == upstream[1] for port, upstream in rounds):
+        sys.exit(f"bench/times.py: {name}: the answers differ")
+    port, upstream = (min(pair[i][0] for pair in rounds) / calls * 1e9 for i in (0, 1))
     print(f"{name}: port {port:.0f} ns a call, upstream {upstream:.0f} ns, ratio {port / upstream:.2f}", flush=True)
 
 
-def main(port, upstream):
+def main(args):
+    if len(args) != 2:
+        print(__doc__.strip(), file=sys.stderr)
+        return 2
     with tempfile.TemporaryDirectory() as work:
-        for name, data in scripts():
-            compare(name, data, [[port], [upstream, "replay"]], pathlib.Path(work) / "records")
+        path = pathlib.Path(work) / "data"
+        for name, commands, data, calls in timed(*map(pathlib.Path, args)):
+            path.write_bytes(data)
+            compare(name, commands, path, calls)
+    return 0
 
 
-main(*sys.argv[1:])
+sys.exit(main(sys.argv[1:]))
