@@ -102,7 +102,7 @@ permitsIn MaybeVcpu.None p = false
 permitsIn (MaybeVcpu.Some v) p = permits (v .affinity) p
 
 abbrev pub affinityPermits : System → ℕ → ℕ → ℕ → Bool
-affinityPermits s d v p = permitsIn (vcpuOf s d v) p
+affinityPermits s d v p = ltb p (pcpus s) && permitsIn (vcpuOf s d v) p
 
 abbrev pub fullAffinity : System → ℕ
 fullAffinity s = fullMask (s .«pcpu_count»)

@@ -298,6 +298,9 @@ impl System {
     pub fn affinity_permits(self, dom: DomId, vcpu: Vcpu, pcpu: Pcpu) -> bool
         ensures { λ r. ⌜ r ≡ affinityPermits self dom vcpu pcpu ⌝ }
     {
+        if (pcpu as usize) >= least(self.pcpu_count, MAX_PCPUS) {
+            return false;
+        }
         let found = self.vcpu(dom, vcpu);
         match found {
             MaybeVcpu::None => false,
