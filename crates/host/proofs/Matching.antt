@@ -17,13 +17,14 @@ use Rattle.system.specs.declared.System.{System}
 use Rattle.system.specs.declared.Answer.{Answer}
 use Rattle.system.specs.declared.Answer.the-variants.{PcpuBusy, NotAffine}
 use Rattle.system.specs.Answers.{told, Outcome}
+use Rattle.system.specs.Records.{withMask}
 use Rattle.system.specs.Reads.{vcpuAt, isIdle}
 use Rattle.system.specs.Writes.{Tables, Wrote, wrote-vcpu, wrote-both}
 use Rattle.verdict.specs.Sound.{Present, Sound}
 use Rattle.sched.specs.declared.Request.{Request}
 use Rattle.sched.specs.declared.Change.{Change}
 use Rattle.sched.specs.declared.Change.the-variants.{Refuse, Write, Move}
-use Rattle.sched.specs.Records.{withState, withMask, dispatched, left}
+use Rattle.sched.specs.Records.{withState, dispatched, left}
 use Rattle.sched.specs.Steps.{wrongState, admitted, preempted, blocked, woken, masked, offlined, ran, changed, applied}
 use Rattle.sched.proofs.Legal.{NotRunning, Legal, goes-on, comes-off, slot-below, present-back}
 use Rattle.sched.proofs.Requests.{off-nr, ready-nr, blocked-nr}

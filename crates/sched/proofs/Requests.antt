@@ -11,11 +11,12 @@ use Rattle.system.specs.declared.Occupant.{Occupant}
 use Rattle.system.specs.declared.Occupant.the-variants.{Idle, Vcpu}
 use Rattle.system.specs.declared.System.{System}
 use Rattle.system.specs.declared.Answer.the-variants.{PcpuBusy, NotAffine}
+use Rattle.system.specs.Records.{withMask}
 use Rattle.system.specs.Reads.{pcpus, vcpuAt, occupantAt, isIdle}
 use Rattle.verdict.specs.Sound.{Present, Sound}
 use Rattle.sched.specs.declared.Request.{Request}
 use Rattle.sched.specs.declared.Change.the-variants.{Refuse, Write, Move}
-use Rattle.sched.specs.Records.{withMask, dispatched, left}
+use Rattle.sched.specs.Records.{dispatched, left}
 use Rattle.sched.specs.Steps.{admitted, preempted, blocked, woken, masked, offlined, ran, changed}
 use Rattle.sched.proofs.Legal.{NotRunning, StaysPut, Legal, stays, keeps, goes-on, comes-off}
 

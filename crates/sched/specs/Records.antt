@@ -1,4 +1,4 @@
--- A vCPU's record made anew: the only ways in which one changes.
+-- A vCPU's record made anew: with `withMask` of system, the only ways in which one changes.
 use Prim.Native.Nat.{ℕ, _+_, _-_, _^_, min}
 use Rattle.system.specs.declared.RunState.{RunState}
 use Rattle.system.specs.declared.RunState.the-variants.{Running}
@@ -10,9 +10,6 @@ elapsed v now = now - v .«dispatched_at»
 
 abbrev pub withState : VirtualCpu → RunState → VirtualCpu
 withState v st = record { state = st; runtime = v .runtime; «dispatched_at» = v .«dispatched_at»; affinity = v .affinity }
-
-abbrev pub withMask : VirtualCpu → ℕ → VirtualCpu
-withMask v m = record { state = v .state; runtime = v .runtime; «dispatched_at» = v .«dispatched_at»; affinity = m }
 
 -- onto pCPU p: the interval opens
 unfoldable pub dispatched : VirtualCpu → ℕ → ℕ → VirtualCpu

@@ -12,13 +12,14 @@ use Rattle.system.specs.declared.System.{System}
 use Rattle.system.specs.declared.Answer.{Answer}
 use Rattle.system.specs.declared.Answer.the-variants.{BadDomain, BadVcpu, BadPcpu, WrongState, PcpuBusy, NotAffine, Unsound}
 use Rattle.system.specs.Answers.{told, Outcome}
+use Rattle.system.specs.Records.{withMask}
 use Rattle.system.specs.Reads.{domains, vcpus, pcpus, slot, vcpuAt, occupantAt, isIdle, vcpuCount, fullAffinity}
 use Rattle.system.specs.Writes.{putVcpu, putOccupant}
 use Rattle.verdict.specs.Violations.{invariantsHold}
 use Rattle.sched.specs.declared.Request.{Request}
 use Rattle.sched.specs.declared.Change.{Change}
 use Rattle.sched.specs.declared.Change.the-variants.{Refuse, Write, Move}
-use Rattle.sched.specs.Records.{withState, withMask, dispatched, left}
+use Rattle.sched.specs.Records.{withState, dispatched, left}
 
 -- what is told of a vCPU found in a state that the call does not accept
 abbrev pub wrongState : RunState → Answer

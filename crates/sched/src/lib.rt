@@ -4,7 +4,8 @@
 ghost use mathlib.Core.Path.{_≡_};
 ghost use Prim.Native.Nat.{_+_, _-_, _^_, min};
 ghost use Rattle.system.specs.Answers.{outcome};
-ghost use Rattle.sched.specs.Records.{elapsed, withState, withMask, dispatched, left};
+ghost use Rattle.system.specs.Records.{withMask};
+ghost use Rattle.sched.specs.Records.{elapsed, withState, dispatched, left};
 ghost use Rattle.sched.specs.Steps.{wrongState, admitted, preempted, blocked, woken, masked, offlined, ran};
 ghost use Rattle.sched.specs.Steps.{changed, requested, admit, preempt, block, wake, setAffinity};
 ghost use Rattle.sched.specs.Steps.{refused, offline, run, offlineAll};

@@ -1,4 +1,5 @@
 pub mod Answers
+pub mod Records
 pub mod Shape
 pub mod Reads
 pub mod Writes

@@ -10,6 +10,7 @@ use Rattle.system.specs.declared.Occupant.the-variants.{Idle}
 use Rattle.system.specs.declared.PhysicalCpu.{PhysicalCpu}
 use Rattle.system.specs.declared.System.{System}
 use Rattle.system.specs.Answers.{Outcome}
+use Rattle.system.specs.Records.{withMask}
 
 -- what every vCPU record starts from
 abbrev pub offline : VirtualCpu
@@ -25,7 +26,7 @@ fits d v p = leb d 16 && (leb v 8 && leb p 64)
 
 -- a vCPU as built on a host of p pCPUs: Offline, every pCPU admitted
 abbrev pub blank : ℕ → VirtualCpu
-blank p = record { state = Offline; runtime = 0; «dispatched_at» = 0; affinity = fullMask p }
+blank p = withMask offline (fullMask p)
 
 -- a system as built
 unfoldable pub fresh : ℕ → ℕ → ℕ → System

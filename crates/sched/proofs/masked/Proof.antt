@@ -5,7 +5,7 @@ use borrow.Author.Needs.{needs}
 use Rattle.system.specs.declared.RunState.{RunState}
 use Rattle.system.specs.declared.VirtualCpu.{VirtualCpu}
 use Rattle.sched.specs.declared.Change.the-variants.{Write}
-use Rattle.sched.specs.Records.{withMask}
+use Rattle.system.specs.Records.{withMask}
 use Rattle.sched.specs.Steps.{masked}
 use Rattle.sched.proofs.masked.Statement.{statement}
 use Rattle.sched.proofs.masked.Tie as tie
