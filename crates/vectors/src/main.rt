@@ -2,6 +2,7 @@
 
 ghost use mathlib.Core.Path.{_≡_};
 ghost use mathlib.Core.Bool.{true};
+ghost use mathlib.Core.Logic.{_↔_};
 ghost use Prim.Native.Nat.{_+_, _*_, _-_, _/_, max};
 ghost use lib.Dec.{ltb};
 ghost use Rattle.masks.specs.Masks.{permits, fullMask, clipped, lowest};
@@ -22,7 +23,7 @@ const LONG: [u32; 4] = [0, 0, 1, 0];
 const TOP: [u32; 4] = [u32::MAX; 4];
 
 fn same(a: [u32; 4], b: [u32; 4]) -> bool
-    ensures { λ r. ⌜ (a ≡ b → r ≡ true) ⌝ }
+    ensures { λ r. ⌜ (r ≡ true ↔ a ≡ b) ⌝ }
 {
     if a[0] != b[0] {
         return false;

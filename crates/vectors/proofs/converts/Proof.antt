@@ -10,5 +10,5 @@ converts-spec =
     (tie.spec
     (λ c κs. search needs)
     (λ c κs. search needs)
-    (λ c κs. c .same .ensures (c .before .from-u64 .ensures ∙ c .before .before .pre))
+    (λ c κs. c .same .ensures .1 (c .before .from-u64 .ensures ∙ c .before .before .pre))
     (λ c. search needs))

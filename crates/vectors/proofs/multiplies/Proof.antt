@@ -10,5 +10,5 @@ multiplies-spec =
     (tie.spec
     (λ c κs. search needs)
     (λ c κs. search needs)
-    (λ c κs. c .same .ensures (c .before .product .ensures ∙ c .before .before .pre))
+    (λ c κs. c .same .ensures .1 (c .before .product .ensures ∙ c .before .before .pre))
     (λ c. search needs))
