@@ -8,16 +8,17 @@ use borrow.Author.Tests.{ltb-true, ltb-false}
 use Rattle.service.specs.Service.{moreDeserving}
 use Rattle.service.specs.Laws.{below-lid, deserving-exact, product-below}
 use Rattle.system.specs.declared.System.{System}
+use Rattle.system.specs.Records.{runtimeUntil}
 use Rattle.system.specs.Reads.{vcpuAt}
 use Rattle.moves.specs.Scan.{Ranks}
 use Rattle.policy.specs.declared.Scheduler.{Scheduler}
 use Rattle.policy.specs.Accounts.{offsetOf}
-use Rattle.policy.specs.Standing.{inFlight, weightAt, serviceAt, deserves}
+use Rattle.policy.specs.Standing.{weightAt, serviceAt, deserves}
 use Rattle.advance.specs.Least.{unheld-ranks}
 
 -- service without the offset
 abbrev pub rawService : System → ℕ → ℕ → ℕ
-rawService s now i = (vcpuAt s i) .runtime + inFlight (vcpuAt s i) now
+rawService s now i = runtimeUntil (vcpuAt s i) now
 
 -- no offset is set, weights are those of 32 bits, and no service times a weight can be held
 pub record Level (s : System) (π : Scheduler) (now : ℕ) : Type 0 where

@@ -11,6 +11,7 @@ use Rattle.service.specs.Service.{held}
 use Rattle.system.specs.declared.VirtualCpu.{VirtualCpu}
 use Rattle.system.specs.declared.Occupant.{Occupant}
 use Rattle.system.specs.declared.System.{System}
+use Rattle.system.specs.Records.{inFlight}
 use Rattle.system.specs.Reads.{domains, vcpuAt}
 use Rattle.system.specs.Writes.{putVcpu, putOccupant, Tables}
 use Rattle.verdict.specs.Sound.{Sound}
@@ -20,7 +21,7 @@ use Rattle.moves.specs.Decide.{decide}
 use Rattle.moves.specs.Table.{tabled}
 use Rattle.policy.specs.declared.Scheduler.{Scheduler}
 use Rattle.policy.specs.Accounts.{offsetOf}
-use Rattle.policy.specs.Standing.{slots, inFlight}
+use Rattle.policy.specs.Standing.{slots}
 use Rattle.advance.specs.Choices.{choice}
 use Rattle.advance.specs.Advance.{limit}
 use Rattle.advance.proofs.Stores.{setRow, row-length}

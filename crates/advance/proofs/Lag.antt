@@ -11,13 +11,13 @@ use Rattle.system.specs.declared.VirtualCpu.{VirtualCpu}
 use Rattle.system.specs.declared.Occupant.{Occupant}
 use Rattle.system.specs.declared.Occupant.the-variants.{Idle}
 use Rattle.system.specs.declared.System.{System}
+use Rattle.system.specs.Records.{elapsed, flight, inFlight}
 use Rattle.system.specs.Reads.{pcpus, vcpuAt}
 use Rattle.system.specs.Writes.{Wrote}
 use Rattle.verdict.specs.Sound.{Present}
-use Rattle.sched.specs.Records.{elapsed, dispatched, left}
+use Rattle.sched.specs.Records.{dispatched, left}
 use Rattle.sched.proofs.Legal.{present-back, same-pcpus}
 use Rattle.sched.specs.CanRun.{stateAt, admits, CanRun}
-use Rattle.policy.specs.Standing.{inFlight, flight}
 use Rattle.policy.specs.Accounting.{schedulable}
 use Rattle.advance.proofs.Exact.{rawService}
 use Rattle.advance.specs.Cross.{lag-trans, base-trans}

@@ -11,19 +11,20 @@ use borrow.Author.Tests.{leb-true, leb-false}
 use Rattle.system.specs.declared.RunState.{RunState}
 use Rattle.system.specs.declared.RunState.the-variants.{Offline, Runnable, Running, Blocked}
 use Rattle.system.specs.declared.System.{System}
+use Rattle.system.specs.Records.{elapsed, flight, inFlight}
 use Rattle.system.specs.Reads.{vcpuAt}
 use Rattle.system.specs.declared.VirtualCpu.{VirtualCpu}
 use Rattle.system.specs.declared.Occupant.{Occupant}
 use Rattle.system.specs.Writes.{Tables, Wrote}
 use Rattle.verdict.specs.Sound.{Present, Sound}
-use Rattle.sched.specs.Records.{elapsed, dispatched, left}
+use Rattle.sched.specs.Records.{dispatched, left}
 use Rattle.sched.specs.CanRun.{stateAt, CanRun}
 use Rattle.sched.specs.Keeps.{runtimeAt}
 use Rattle.moves.specs.declared.Choice.{Choice}
 use Rattle.moves.specs.declared.Choice.the-variants.{Run, Preempt, Rest}
 use Rattle.policy.specs.declared.Scheduler.{Scheduler}
 use Rattle.policy.specs.Accounts.{offsetOf}
-use Rattle.policy.specs.Standing.{weightAt, inFlight, flight}
+use Rattle.policy.specs.Standing.{weightAt}
 use Rattle.advance.specs.Choices.{choice}
 use Rattle.policy.specs.Accounting.{schedulable, pooled}
 use Rattle.advance.specs.Advance.{enacted}

@@ -16,6 +16,7 @@ use Rattle.system.specs.declared.Occupant.{Occupant}
 use Rattle.system.specs.declared.Occupant.the-variants.{Vcpu}
 use Rattle.system.specs.declared.System.{System}
 use Rattle.system.specs.Answers.{Outcome}
+use Rattle.system.specs.Records.{inFlight}
 use Rattle.system.specs.Reads.{vcpus, pcpus, vcpuAt, isIdle}
 use Rattle.system.specs.Writes.{putVcpu, putOccupant, Tables, Wrote, wrote-both}
 use Rattle.verdict.specs.Sound.{Present, Sound}
@@ -27,7 +28,7 @@ use Rattle.moves.specs.declared.Choice.the-variants.{Run, Preempt, Rest}
 use Rattle.service.specs.Service.{value, held}
 use Rattle.policy.specs.declared.Scheduler.{Scheduler}
 use Rattle.policy.specs.Accounts.{offsetOf}
-use Rattle.policy.specs.Standing.{present, inFlight}
+use Rattle.policy.specs.Standing.{present}
 use Rattle.advance.specs.declared.Decision.the-variants as decision
 use Rattle.advance.specs.Choices.{choice}
 use Rattle.advance.specs.Advance.{named, enacted, Settled, goOn, settle}

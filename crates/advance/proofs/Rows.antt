@@ -18,15 +18,15 @@ use Rattle.system.specs.declared.RunState.{RunState}
 use Rattle.system.specs.declared.RunState.the-variants.{Offline, Runnable, Running, Blocked}
 use Rattle.system.specs.declared.VirtualCpu.{VirtualCpu}
 use Rattle.system.specs.declared.System.{System}
+use Rattle.system.specs.Records.{elapsed, inFlight}
 use Rattle.system.specs.Reads.{vcpus, vcpuAt}
 use Rattle.verdict.specs.Sound.{Present, Sound}
-use Rattle.sched.specs.Records.{elapsed}
 use Rattle.moves.specs.Decide.{Standings, decide}
 use Rattle.moves.proofs.DecideCong.{Alike, decide-cong}
 use Rattle.moves.specs.Table.{tabled}
 use Rattle.policy.specs.declared.Scheduler.{Scheduler}
 use Rattle.policy.specs.Accounts.{offsetOf}
-use Rattle.policy.specs.Standing.{slots, present, inFlight, weightAt, serviceAt, deserves}
+use Rattle.policy.specs.Standing.{slots, present, weightAt, serviceAt, deserves}
 use Rattle.verdict.specs.Violations.{onto}
 use Rattle.advance.specs.Choices.{isRunnable, isExpired, standings, choice}
 use Rattle.advance.specs.ChoiceLaws.{is-present}

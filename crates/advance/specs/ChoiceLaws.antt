@@ -10,9 +10,9 @@ use Rattle.system.specs.declared.RunState.the-variants.{Offline, Runnable, Runn
 use Rattle.system.specs.declared.Occupant.{Occupant}
 use Rattle.system.specs.declared.Occupant.the-variants.{Idle, Vcpu}
 use Rattle.system.specs.declared.System.{System}
+use Rattle.system.specs.Records.{elapsed}
 use Rattle.system.specs.Reads.{pcpus, vcpuAt, isIdle}
 use Rattle.verdict.specs.Sound.{Present}
-use Rattle.sched.specs.Records.{elapsed}
 use Rattle.sched.specs.CanRun.{stateAt, admits, CanRun}
 use Rattle.moves.specs.declared.Choice.the-variants.{Run, Preempt, Rest}
 use Rattle.moves.specs.Scan.{Ranks}

@@ -5,9 +5,9 @@ use lib.Dec.{ltb, leb}
 use Rattle.system.specs.declared.RunState.{RunState}
 use Rattle.system.specs.declared.RunState.the-variants.{Offline, Runnable, Running, Blocked}
 use Rattle.system.specs.declared.System.{System}
+use Rattle.system.specs.Records.{elapsed}
 use Rattle.system.specs.Reads.{pcpus, vcpuAt, occupantAt, isIdle}
 use Rattle.verdict.specs.Violations.{onto}
-use Rattle.sched.specs.Records.{elapsed}
 use Rattle.moves.specs.declared.Choice.{Choice}
 use Rattle.moves.specs.Decide.{Standings, decide}
 use Rattle.policy.specs.declared.Scheduler.{Scheduler}

@@ -14,8 +14,9 @@ use Rattle.system.specs.declared.VirtualCpu.{VirtualCpu}
 use Rattle.system.specs.declared.Occupant.{Occupant}
 use Rattle.system.specs.declared.Occupant.the-variants.{Idle, Vcpu}
 use Rattle.system.specs.declared.System.{System}
+use Rattle.system.specs.Records.{elapsed}
 use Rattle.system.specs.Reads.{pcpus, vcpuAt, occupantAt, isIdle}
-use Rattle.sched.specs.Records.{elapsed, dispatched, left}
+use Rattle.sched.specs.Records.{dispatched, left}
 use Rattle.moves.specs.declared.Choice.{Choice}
 use Rattle.moves.specs.declared.Choice.the-variants.{Run, Preempt, Rest}
 use Rattle.moves.specs.Table.{rowAt}

@@ -74,7 +74,7 @@ fn kind_of(v: VirtualCpu, present: bool, quantum: Ticks, now: Ticks) -> u32
         RunState::Offline => 0,
         RunState::Runnable => 1,
         RunState::Running { pcpu } => {
-            if quantum <= sched::elapsed(v, now) {
+            if quantum <= system::elapsed(v, now) {
                 pcpu % 64 + 2
             } else {
                 0

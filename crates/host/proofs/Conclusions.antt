@@ -13,6 +13,7 @@ use Rattle.system.specs.declared.RunState.{RunState}
 use Rattle.system.specs.declared.RunState.the-variants.{Offline, Runnable, Running, Blocked}
 use Rattle.system.specs.declared.VirtualCpu.{VirtualCpu}
 use Rattle.system.specs.declared.System.{System}
+use Rattle.system.specs.Records.{flight, inFlight}
 use Rattle.system.specs.Shape.{offline, fresh}
 use Rattle.system.specs.Shape as shape
 use Rattle.system.specs.Reads.{pcpus, slot, vcpuAt}
@@ -28,7 +29,7 @@ use Rattle.policy.specs.Accounts.{blankAccount, plain, covers, accountAt, accou
 use Rattle.policy.specs.Accounting.{schedulable, accounted}
 use Rattle.policy.proofs.AccountLaws.{covers-below}
 use Rattle.sched.specs.Keeps.{runtimeAt}
-use Rattle.policy.specs.Standing.{weightAt, inFlight, flight}
+use Rattle.policy.specs.Standing.{weightAt}
 use Rattle.advance.specs.Advance.{movesOn}
 use Rattle.advance.proofs.Exact.{rawService}
 use Rattle.advance.proofs.Lag.{Lag, raw-waiting}

@@ -7,6 +7,7 @@ use native.Mathlib.Omega.{arith}
 use borrow.Author.Needs.{needs}
 use Rattle.masks.specs.Masks.{first}
 use Rattle.service.specs.Service.{value, limbs, held, moreDeserving}
+use Rattle.system.specs.Records.{inFlight}
 use Rattle.system.specs.Reads.{vcpuAt, occupantAt}
 use Rattle.system.specs.Shape.{fresh}
 use Rattle.system.specs.Writes.{putVcpu, putOccupant}
@@ -17,7 +18,7 @@ use Rattle.moves.specs.declared.Choice.the-variants.{Run, Preempt}
 use Rattle.moves.specs.Scan.{scan}
 use Rattle.moves.specs.Decide.{decide, chosen, victim, placement, placeable, beaten, loses}
 use Rattle.policy.specs.Accounts.{accountAt, accountOf, putAccount, freshPolicy, setWeight, setWakeBoost}
-use Rattle.policy.specs.Standing.{inFlight, serviceAt, deserves}
+use Rattle.policy.specs.Standing.{serviceAt, deserves}
 use Rattle.policy.specs.Accounting.{floor, renewed, renewFirst, accounted}
 use Rattle.advance.specs.Choices.{standings, choice}
 use Rattle.advance.specs.Advance.{enacted, settle}

@@ -6,6 +6,7 @@ use mathlib.Core.List.{List, [], _∷_, map}
 use lib.ListN.{length}
 use Rattle.masks.specs.Masks.{permits, first}
 use Rattle.service.specs.Service.{value, limbs, held, moreDeserving}
+use Rattle.system.specs.Records.{inFlight}
 use Rattle.system.specs.Reads.{vcpuAt, occupantAt}
 use Rattle.system.specs.Shape.{fresh}
 use Rattle.system.specs.Writes.{putVcpu, putOccupant}
@@ -17,7 +18,7 @@ use Rattle.moves.specs.Decide.{decide, chosen, victim, placement, placeable, be
 use Rattle.moves.specs.declared.Choice.{Choice}
 use Rattle.moves.specs.declared.Choice.the-variants.{Run, Preempt, Rest}
 use Rattle.policy.specs.Accounts.{offsetOf, accountAt, accountOf, putAccount, freshPolicy, setWeight, setWakeBoost}
-use Rattle.policy.specs.Standing.{inFlight, serviceAt, deserves}
+use Rattle.policy.specs.Standing.{serviceAt, deserves}
 use Rattle.policy.specs.Accounting.{floor, renewed, renewFirst, accounted}
 use Rattle.advance.specs.Choices.{standings, choice}
 use Rattle.advance.specs.Advance.{enacted, settle}

@@ -6,13 +6,14 @@ use mathlib.Core.List.{List}
 use Rattle.service.specs.Service.{value, held, moreDeserving}
 use Rattle.service.specs.Laws.{value-held}
 use Rattle.system.specs.declared.System.{System}
+use Rattle.system.specs.Records.{runtimeUntil}
 use Rattle.system.specs.Reads.{vcpuAt}
 use Rattle.moves.specs.Scan.{Pick, at, against, scan}
 use Rattle.policy.specs.declared.Account.{Account}
 use Rattle.policy.specs.declared.Standing.{Standing}
 use Rattle.policy.specs.declared.Scheduler.{Scheduler}
 use Rattle.policy.specs.Accounts.{accountOf, wasSchedulable}
-use Rattle.policy.specs.Standing.{inFlight, present, weightAt, serviceAt, deserves}
+use Rattle.policy.specs.Standing.{present, weightAt, serviceAt, deserves}
 use Rattle.policy.specs.Accounting.{pooled}
 use Rattle.policy.specs.Loops.{undercuts, leader, Leads, none, one}
 
@@ -25,7 +26,7 @@ module _ (s : System) (π : Scheduler) (now i : ℕ) (best : Standing) where
   account = accountOf π (i / 8) (i % 8)
 
   abbrev service : List ℕ
-  service = held ((vcpuAt s i) .runtime + inFlight (vcpuAt s i) now + value (account .offset))
+  service = held (runtimeUntil (vcpuAt s i) now + value (account .offset))
 
   abbrev next : Standing
   next = record { found = true; service = service; weight = weightAt π i }

@@ -6,11 +6,12 @@ use mathlib.Core.List.{List}
 use Rattle.service.specs.Service.{value, held, moreDeserving}
 use Rattle.system.specs.declared.VirtualCpu.{VirtualCpu}
 use Rattle.system.specs.declared.System.{System}
+use Rattle.system.specs.Records.{runtimeUntil}
 use Rattle.moves.specs.Scan.{Pick, nobody, at}
 use Rattle.policy.specs.declared.Account.{Account}
 use Rattle.policy.specs.declared.Standing.{Standing}
 use Rattle.policy.specs.declared.Scheduler.{Scheduler}
-use Rattle.policy.specs.Standing.{inFlight, weightAt, serviceAt}
+use Rattle.policy.specs.Standing.{weightAt, serviceAt}
 use Rattle.policy.specs.Accounting.{schedulable, lift}
 
 -- a service at a weight comes before the floor so far
@@ -20,7 +21,7 @@ undercuts best service weight = cond (best .found) (moreDeserving service weight
 -- who leads once v was compared
 abbrev pub leader : Standing → VirtualCpu → Account → ℕ → Standing
 leader best v a now =
-    let service = held (v .runtime + inFlight v now + value (a .offset)) in
+    let service = held (runtimeUntil v now + value (a .offset)) in
     let weight = max (a .weight) 1 in
     cond (schedulable (v .state) && a .«was_schedulable»)
     (cond (undercuts best (value service) weight) (record { found = true; service = service; weight = weight }) best) best

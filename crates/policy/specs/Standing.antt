@@ -3,24 +3,11 @@ use Prim.Native.Nat.{ℕ, _+_, _-_, _*_, _/_, _%_, _^_, min}
 use mathlib.Core.Bool.{Bool}
 use lib.Dec.{ltb}
 use Rattle.service.specs.Service.{moreDeserving}
-use Rattle.system.specs.declared.RunState.{RunState}
-use Rattle.system.specs.declared.RunState.the-variants.{Offline, Runnable, Running, Blocked}
-use Rattle.system.specs.declared.VirtualCpu.{VirtualCpu}
 use Rattle.system.specs.declared.System.{System}
+use Rattle.system.specs.Records.{runtimeUntil}
 use Rattle.system.specs.Reads.{domains, vcpus, vcpuAt}
-use Rattle.sched.specs.Records.{elapsed}
 use Rattle.policy.specs.declared.Scheduler.{Scheduler}
 use Rattle.policy.specs.Accounts.{weightOf, offsetOf}
-
--- the part in flight: max(0, now − dispatched) while Running
-abbrev pub flight : VirtualCpu → ℕ → RunState → ℕ
-flight v now Offline = 0
-flight v now Runnable = 0
-flight v now (Running p) = elapsed v now
-flight v now Blocked = 0
-
-unfoldable pub inFlight : VirtualCpu → ℕ → ℕ
-inFlight v now = flight v now (v .state)
 
 -- the slots of a system, scanned by domain, then vCPU; not every slot has a vCPU
 abbrev pub slots : System → ℕ
@@ -35,7 +22,7 @@ weightAt π i = weightOf π (i / 8) (i % 8)
 -- run time, the part in flight and the offset, held at 2^128 − 1
 unfoldable pub serviceAt : System → Scheduler → ℕ → ℕ → ℕ
 serviceAt s π now i =
-    min ((vcpuAt s i) .runtime + inFlight (vcpuAt s i) now + offsetOf π (i / 8) (i % 8)) (2 ^ 128 - 1)
+    min (runtimeUntil (vcpuAt s i) now + offsetOf π (i / 8) (i % 8)) (2 ^ 128 - 1)
 
 -- i has had less service for its weight than j
 unfoldable pub deserves : System → Scheduler → ℕ → ℕ → ℕ → Bool

@@ -6,8 +6,8 @@ ghost use mathlib.Core.Bool.{cond, _&&_};
 ghost use Prim.Native.Nat.{_+_, _/_, _%_, min, max};
 ghost use lib.Dec.{ltb};
 ghost use Rattle.service.specs.Service.{value, held};
+ghost use Rattle.system.specs.Records.{runtimeUntil};
 ghost use Rattle.policy.specs.Accounts.{plain, weightOf, setWeight, setWakeBoost, freshPolicy, policyOutcome, builtPolicy};
-ghost use Rattle.policy.specs.Standing.{inFlight};
 ghost use Rattle.policy.specs.Accounting.{schedulable, floor, accounted};
 ghost use Rattle.policy.specs.Loops.{undercuts, leader, Leads, liftedTo, renewedAt};
 use service::Service;
@@ -18,6 +18,7 @@ use system::System;
 use system::Ticks;
 use system::Vcpu;
 use system::VirtualCpu;
+use system::in_flight;
 use system::least;
 
 /// A vCPU's proportional share.
@@ -107,22 +108,9 @@ pub fn used_weight(a: Account) -> Weight
     raised(a.weight)
 }
 
-/// The part of a vCPU's service that is in flight.
-pub fn in_flight(v: VirtualCpu, now: Ticks) -> u64
-    ensures { λ r. ⌜ r ≡ inFlight v now ⌝ }
-{
-    let state = v.state;
-    match state {
-        RunState::Offline => 0,
-        RunState::Runnable => 0,
-        RunState::Running { pcpu: _ } => sched::elapsed(v, now),
-        RunState::Blocked => 0,
-    }
-}
-
 /// A vCPU's service: run time, the part in flight and the offset.
 pub fn service_of(v: VirtualCpu, a: Account, now: Ticks) -> Service
-    ensures { λ r. ⌜ r ≡ held (v .runtime + inFlight v now + value (a .offset)) ⌝ }
+    ensures { λ r. ⌜ r ≡ held (runtimeUntil v now + value (a .offset)) ⌝ }
 {
     let offset = a.offset;
     let closed = service::from_u64(v.runtime);

@@ -11,12 +11,12 @@ use Rattle.system.specs.declared.VirtualCpu.{VirtualCpu}
 use Rattle.system.specs.declared.Occupant.the-variants.{Idle, Vcpu}
 use Rattle.system.specs.declared.System.{System}
 use Rattle.system.specs.declared.Answer.{Answer}
+use Rattle.system.specs.Records.{elapsed}
 use Rattle.system.specs.Reads.{domains, vcpus, pcpus, slot, vcpuAt, occupantAt}
 use Rattle.system.specs.Writes.{SameShape, Wrote}
 use Rattle.verdict.specs.Sound.{Present, OnPcpu, Holds, Sound}
 use Rattle.sched.specs.declared.Change.{Change}
 use Rattle.sched.specs.declared.Change.the-variants.{Refuse, Write, Move}
-use Rattle.sched.specs.Records.{elapsed}
 use Rattle.sched.specs.CanRun.{stateAt, admits, CanRun}
 
 abbrev pub NotRunning : RunState → Type 0

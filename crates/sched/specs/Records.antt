@@ -3,10 +3,7 @@ use Prim.Native.Nat.{ℕ, _+_, _-_, _^_, min}
 use Rattle.system.specs.declared.RunState.{RunState}
 use Rattle.system.specs.declared.RunState.the-variants.{Running}
 use Rattle.system.specs.declared.VirtualCpu.{VirtualCpu}
-
--- max(0, now − dispatched)
-abbrev pub elapsed : VirtualCpu → ℕ → ℕ
-elapsed v now = now - v .«dispatched_at»
+use Rattle.system.specs.Records.{elapsed}
 
 abbrev pub withState : VirtualCpu → RunState → VirtualCpu
 withState v st = record { state = st; runtime = v .runtime; «dispatched_at» = v .«dispatched_at»; affinity = v .affinity }

@@ -5,7 +5,7 @@ ghost use mathlib.Core.Path.{_≡_};
 ghost use Prim.Native.Nat.{_+_, _-_, _^_, min};
 ghost use Rattle.system.specs.Answers.{outcome};
 ghost use Rattle.system.specs.Records.{withMask};
-ghost use Rattle.sched.specs.Records.{elapsed, withState, dispatched, left};
+ghost use Rattle.sched.specs.Records.{withState, dispatched, left};
 ghost use Rattle.sched.specs.Steps.{wrongState, admitted, preempted, blocked, woken, masked, offlined, ran};
 ghost use Rattle.sched.specs.Steps.{changed, requested, admit, preempt, block, wake, setAffinity};
 ghost use Rattle.sched.specs.Steps.{refused, offline, run, offlineAll};
@@ -22,6 +22,7 @@ use system::System;
 use system::Ticks;
 use system::Vcpu;
 use system::VirtualCpu;
+use system::elapsed;
 use system::is_idle;
 
 /// What is asked of one vCPU.
@@ -47,14 +48,6 @@ pub enum Change {
 }
 
 // ---- a vCPU's record made anew
-
-/// How long a vCPU's present interval has lasted; 0 where the clock ran back.
-pub fn elapsed(v: VirtualCpu, now: Ticks) -> u64
-    ensures { λ r. ⌜ r ≡ elapsed v now ⌝ }
-{
-    let since = v.dispatched_at;
-    if since < now { now - since } else { 0 }
-}
 
 fn held_sum(a: u64, b: u64) -> u64
     ensures { λ r. ⌜ r ≡ min (a + b) (2 ^ 64 - 1) ⌝ }

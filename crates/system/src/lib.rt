@@ -5,6 +5,7 @@ ghost use mathlib.Core.Path.{_≡_};
 ghost use mathlib.Core.Bool.{cond, not};
 ghost use Prim.Native.Nat.{min};
 ghost use Rattle.system.specs.Answers.{outcome};
+ghost use Rattle.system.specs.Records.{elapsed, inFlight};
 ghost use Rattle.system.specs.Shape.{fits, fresh, built};
 ghost use Rattle.system.specs.Reads.{domains, pcpus, vcpuCount, isIdle, vcpuOf, stateOf, runs, isRunning};
 ghost use Rattle.system.specs.Reads.{runtimeOf, since, onCpuSince, occupantOf, affinityOf, affinityPermits};
@@ -147,6 +148,27 @@ pub fn is_idle(o: Occupant) -> bool
     match o {
         Occupant::Idle => true,
         Occupant::Vcpu { dom: _, vcpu: _ } => false,
+    }
+}
+
+/// How long a vCPU's present interval has lasted; 0 where the clock ran back.
+pub fn elapsed(v: VirtualCpu, now: Ticks) -> u64
+    ensures { λ r. ⌜ r ≡ elapsed v now ⌝ }
+{
+    let since = v.dispatched_at;
+    if since < now { now - since } else { 0 }
+}
+
+/// The part of a vCPU's service that is in flight: that interval, while it is Running.
+pub fn in_flight(v: VirtualCpu, now: Ticks) -> u64
+    ensures { λ r. ⌜ r ≡ inFlight v now ⌝ }
+{
+    let state = v.state;
+    match state {
+        RunState::Offline => 0,
+        RunState::Runnable => 0,
+        RunState::Running { pcpu: _ } => elapsed(v, now),
+        RunState::Blocked => 0,
     }
 }
 

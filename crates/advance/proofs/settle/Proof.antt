@@ -6,6 +6,7 @@ use native.Mathlib.Omega.{arith}
 use lib.ListN.{length-map}
 use borrow.Author.Needs.{needs}
 use Rattle.service.specs.Service.{value, held}
+use Rattle.system.specs.Records.{inFlight}
 use Rattle.system.specs.Reads.{vcpuAt}
 use Rattle.system.specs.Writes.{putVcpu, putOccupant, Tables}
 use Rattle.verdict.specs.Sound.{sound-iff}
@@ -14,7 +15,6 @@ use Rattle.moves.specs.declared.Choice.the-variants.{Run, Preempt, Rest}
 use Rattle.policy.specs.declared.Account.{Account}
 use Rattle.policy.specs.Accounts.{accountOf}
 use Rattle.policy.proofs.AccountLaws.{Tabled}
-use Rattle.policy.specs.Standing.{inFlight}
 use Rattle.policy.proofs.Stored.{looked}
 use Rattle.sched.proofs.Legal.{slot-below}
 use Rattle.advance.specs.Choices.{choice}

@@ -6,11 +6,12 @@ use native.Mathlib.Omega.{arith}
 use lib.ListN.{length, length-set, length-map}
 use borrow.Author.Needs.{needs}
 use Rattle.service.specs.Service.{value, held}
+use Rattle.system.specs.Records.{inFlight}
 use Rattle.system.specs.Reads.{vcpuAt}
 use Rattle.policy.specs.declared.Account.{Account}
 use Rattle.policy.specs.Accounts.{accountOf}
 use Rattle.policy.proofs.AccountLaws.{Tabled}
-use Rattle.policy.specs.Standing.{slots, inFlight}
+use Rattle.policy.specs.Standing.{slots}
 use Rattle.policy.proofs.Stored.{looked}
 use Rattle.advance.proofs.Stores.{row-length}
 use Rattle.advance.proofs.Rows.{rows-next}

@@ -2,7 +2,7 @@
 use borrow.Author.Needs.{needs}
 use mathlib.Core.Path.{_∙_}
 use Rattle.service.specs.Service.{value}
-use Rattle.policy.specs.Standing.{inFlight}
+use Rattle.system.specs.Records.{inFlight}
 use Rattle.policy.proofs.Sums.{sums}
 use Rattle.policy.proofs.service_of.Statement.{statement}
 use Rattle.policy.proofs.service_of.Tie as tie

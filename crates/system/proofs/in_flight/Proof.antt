@@ -1,8 +1,8 @@
--- `policy::in_flight` meets its contract. Assumes nothing.
+-- `system::in_flight` meets its contract. Assumes nothing.
 use borrow.Author.Needs.{needs}
-use Rattle.policy.specs.Standing.{inFlight}
-use Rattle.policy.proofs.in_flight.Statement.{statement}
-use Rattle.policy.proofs.in_flight.Tie as tie
+use Rattle.system.specs.Records.{inFlight}
+use Rattle.system.proofs.in_flight.Statement.{statement}
+use Rattle.system.proofs.in_flight.Tie as tie
 
 offline : tie.Need-returns
 unfolding inFlight
