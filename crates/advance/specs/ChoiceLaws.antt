@@ -7,11 +7,9 @@ use borrow.Author.Tests.{ltb-true, lt-ltb, leb-true, le-leb}
 use Rattle.masks.specs.Conj.{both, all-two}
 use Rattle.system.specs.declared.RunState.{RunState}
 use Rattle.system.specs.declared.RunState.the-variants.{Offline, Runnable, Running, Blocked}
-use Rattle.system.specs.declared.Occupant.{Occupant}
-use Rattle.system.specs.declared.Occupant.the-variants.{Idle, Vcpu}
 use Rattle.system.specs.declared.System.{System}
 use Rattle.system.specs.Records.{elapsed}
-use Rattle.system.specs.Reads.{pcpus, vcpuAt, isIdle}
+use Rattle.system.specs.Reads.{pcpus, vcpuAt, isIdle, is-idle}
 use Rattle.verdict.specs.Sound.{Present}
 use Rattle.sched.specs.CanRun.{stateAt, admits, CanRun}
 use Rattle.moves.specs.declared.Choice.the-variants.{Run, Preempt, Rest}
@@ -28,10 +26,6 @@ is-runnable Offline e = absurd (false≢true e)
 is-runnable Runnable e = refl
 is-runnable (Running p) e = absurd (false≢true e)
 is-runnable Blocked e = absurd (false≢true e)
-
-is-idle : (o : Occupant) → isIdle o ≡ true → o ≡ Idle
-is-idle Idle e = refl
-is-idle (Vcpu d v) e = absurd (false≢true e)
 
 -- a slot below the last that has a vCPU
 pub is-present : (s : System) (i : ℕ) → i < slots s → present s i ≡ true → Present s i

@@ -1,18 +1,17 @@
 -- On a sound system every request is a legal change. Assumes nothing.
 use Prim.Native.Nat.{ℕ, _/_, _%_, _<_}
-use mathlib.Core.Bool.{Bool, true, false, cond, false≢true}
+use mathlib.Core.Bool.{Bool, true, false, cond}
 use mathlib.Core.Path.{_≡_, refl, sym, subst}
 use native.Mathlib.Omega.{arith}
 use Rattle.masks.specs.Masks.{permits}
 use Rattle.system.specs.declared.RunState.{RunState}
 use Rattle.system.specs.declared.RunState.the-variants.{Offline, Runnable, Running, Blocked}
 use Rattle.system.specs.declared.VirtualCpu.{VirtualCpu}
-use Rattle.system.specs.declared.Occupant.{Occupant}
-use Rattle.system.specs.declared.Occupant.the-variants.{Idle, Vcpu}
+use Rattle.system.specs.declared.Occupant.the-variants.{Vcpu}
 use Rattle.system.specs.declared.System.{System}
 use Rattle.system.specs.declared.Answer.the-variants.{PcpuBusy, NotAffine}
 use Rattle.system.specs.Records.{withMask}
-use Rattle.system.specs.Reads.{pcpus, vcpuAt, occupantAt, isIdle}
+use Rattle.system.specs.Reads.{pcpus, vcpuAt, occupantAt, isIdle, is-idle}
 use Rattle.verdict.specs.Sound.{Present, Sound}
 use Rattle.sched.specs.declared.Request.{Request}
 use Rattle.sched.specs.declared.Change.the-variants.{Refuse, Write, Move}
@@ -90,10 +89,6 @@ module _ (s : System) (i : ℕ) (S : Sound s) (h : Present s i) where
   changed-legal Request.Wake full = woken-legal (old .state) refl
   changed-legal (Request.SetAffinity m) full = masked-legal m (old .state) refl
   changed-legal (Request.Offline now) full = offlined-legal full now (old .state) refl
-
-  is-idle : (o : Occupant) → isIdle o ≡ true → o ≡ Idle
-  is-idle Idle e = refl
-  is-idle (Vcpu d u) e = absurd (false≢true e)
 
   pub ran-legal : (p now : ℕ) → p < pcpus s → (st : RunState) → old .state ≡ st → Legal s i (ran old (i / 8) (i % 8) p (occupantAt s p) now st)
   unfolding dispatched

@@ -1,6 +1,7 @@
 -- What can be read of a system, damaged or not.
 use Prim.Native.Nat.{ℕ, zero, suc, _+_, _*_, min}
-use mathlib.Core.Bool.{Bool, true, false, cond, not, _&&_}
+use mathlib.Core.Bool.{Bool, true, false, cond, not, _&&_, false≢true}
+use mathlib.Core.Path.{_≡_, refl}
 use mathlib.Core.List.{List}
 use lib.Dec.{ltb}
 use lib.ListN.{getD}
@@ -41,6 +42,10 @@ occupantAt s p = (getD (s .pcpus) p idle) .occupant
 abbrev pub isIdle : Occupant → Bool
 isIdle Idle = true
 isIdle (Vcpu d v) = false
+
+pub is-idle : (o : Occupant) → isIdle o ≡ true → o ≡ Idle
+is-idle Idle e = refl
+is-idle (Vcpu d v) e = absurd (false≢true e)
 
 -- an id at or above its count is absent
 unfoldable pub vcpuOf : System → ℕ → ℕ → MaybeVcpu
