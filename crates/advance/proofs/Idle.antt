@@ -7,6 +7,7 @@ use native.Mathlib.Omega.{arith}
 use lib.Pow.{pow-mono}
 use borrow.Author.Tests.{lt-ltb, le-ltb}
 use Rattle.masks.specs.Masks.{pcpuBit}
+use Rattle.masks.specs.Laws.{pcpu-bit-is}
 use Rattle.masks.specs.Sets.{setOf, setOf-below}
 use Rattle.system.specs.declared.System.{System}
 use Rattle.system.specs.Reads.{pcpus, occupantAt, isIdle}
@@ -19,7 +20,7 @@ module _ (s : System) (q : ℕ) (l : q < pcpus s) where
   -- an idle pCPU joins
   pub joins : isIdle (occupantAt s q) ≡ true → setOf (λ p. idleAt s p) q + pcpuBit q ≡ setOf (λ p. idleAt s p) (suc q)
   unfolding setOf
-  joins e = rw (here true e, lt-ltb q 64 (omega arith))
+  joins e = rw (here true e, pcpu-bit-is q (omega arith))
 
   -- the sum is below the next power
   pub joins-below : isIdle (occupantAt s q) ≡ true → setOf (λ p. idleAt s p) q + pcpuBit q < 2 ^ 64

@@ -9,7 +9,7 @@ use lib.Dec.{ltb}
 use lib.ListN.{length, set}
 use lib.Seq.{getD-set-same}
 use borrow.Author.Tests.{lt-ltb}
-use Rattle.masks.specs.Masks.{pcpuBit}
+use Rattle.masks.specs.Laws.{pcpu-bit-is}
 use Rattle.masks.specs.Sets.{setOf, setOf-below, setOf-change}
 use Rattle.system.specs.declared.VirtualCpu.{VirtualCpu}
 use Rattle.system.specs.declared.Occupant.{Occupant}
@@ -134,19 +134,16 @@ module _ {s : System} {now : ℕ} (T : Tables s) where
           shifts (λ q. idleAt s q) (λ q. idleAt (moved s now c) q) (ontoIn c) (omega (arith, m .pcpu)) (λ q l n. elsewhere c m q n)
           (isIdle (occupantAfter c)) (m .frees) (here c m)
 
-      bit-is : (p : ℕ) → p < pcpus s → pcpuBit p ≡ 2 ^ p
-      bit-is p l = rw (lt-ltb p 64 (omega arith))
-
       go : (c : Choice) → isRest c ≡ false → Moves s now c
           → Shifts (setOf (λ q. idleAt s q) 64) (cleared c) (freed c) (setOf (λ q. idleAt (moved s now c) q) 64)
       go (Run i p) r m =
           let x = law (Run i p) m in
-          let b = bit-is p (m .pcpu) in
+          let b = pcpu-bit-is p (omega (arith, m .pcpu)) in
           let k = setOf-below (λ q. idleAt (moved s now (Run i p)) q) 64 in
           record { there = omega arith; shifted = omega arith; fits = omega arith }
       go (Preempt i p) r m =
           let x = law (Preempt i p) m in
-          let b = bit-is p (m .pcpu) in
+          let b = pcpu-bit-is p (omega (arith, m .pcpu)) in
           let k = setOf-below (λ q. idleAt (moved s now (Preempt i p)) q) 64 in
           record { there = omega arith; shifted = omega arith; fits = omega arith }
       go Rest r m = absurd (false≢true (sym r))

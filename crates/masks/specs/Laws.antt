@@ -8,7 +8,7 @@ use lib.Dec.{eqb, ltb}
 use lib.Pow.{field, mod-mod-pow, pow-pos, pow-mono, ones-lt, ones-split, high}
 use lib.Bits.{bitAnd, and-shr, and-step}
 use borrow.Author.Tests.{ltb-true, ltb-false, lt-ltb, le-ltb}
-use Rattle.masks.specs.Masks.{bit, permits, fullMask, clipped, first, lowest}
+use Rattle.masks.specs.Masks.{bit, permits, pcpuBit, fullMask, clipped, first, lowest}
 
 -- r is the least number below n that f holds of, or n where there is none
 pub record Least (f : ℕ → Bool) (n r : ℕ) : Type 0 where
@@ -37,6 +37,11 @@ first-cong f g (suc n) h =
     let e = h zero (omega arith) in
     let l = first-cong (λ p. f (suc p)) (λ p. g (suc p)) n (λ p k. h (suc p) (omega arith)) in
     rw (e, l)
+
+-- ---- the bit of a pCPU that a word has
+
+pub pcpu-bit-is : (p : ℕ) → p < 64 → pcpuBit p ≡ 2 ^ p
+pcpu-bit-is p h = rw (lt-ltb p 64 h)
 
 -- ---- no mask admits a pCPU from 64 up
 

@@ -4,13 +4,13 @@ use Prim.Native.Nat.{_^_}
 use native.Mathlib.Nat.{min-eq-left, min-eq-right, le-of-lt}
 use lib.Pow.{pow-pos}
 use borrow.Author.Needs.{needs}
-use borrow.Author.Tests.{lt-ltb}
+use Rattle.masks.specs.Laws.{pcpu-bit-is}
 use Rattle.masks.proofs.full_mask.Statement.{statement}
 use Rattle.masks.proofs.full_mask.Tie as tie
 
 -- the bit of a pCPU that a word has
 bit-is : (c : tie.After-pcpu-bit) → c .pcpu-bit .result ≡ 2 ^ c .before .before .args .num-pcpus
-bit-is c = c .pcpu-bit .ensures ∙ rw (lt-ltb _ _ (c .before .if1 .taken))
+bit-is c = c .pcpu-bit .ensures ∙ pcpu-bit-is (c .before .before .args .num-pcpus) (c .before .if1 .taken)
 
 pub full-mask-spec : {M : Type 1} → statement M
 full-mask-spec =
