@@ -1,7 +1,7 @@
 -- What an advance can still cost a pCPU: a cold runner nothing, an idle pCPU one move, a hot runner two. Each move takes one
 -- off the sum. Assumes nothing.
 use Prim.Native.Nat.{ℕ, suc, _+_, _-_, _*_, _/_, _%_, _≤_, _<_, min}
-use mathlib.Core.Bool.{Bool, true, false, cond, _&&_}
+use mathlib.Core.Bool.{Bool, true, false, cond, and-false}
 use mathlib.Core.Path.{_≡_, refl, sym, ap}
 use mathlib.Core.Logic.{_≢_}
 use native.Mathlib.Omega.{arith}
@@ -39,11 +39,7 @@ hot-same s s′ π now j e f = rw (e, f)
 -- whoever was dispatched just now is cold
 dispatched-cold : (s : System) (π : Scheduler) (now j p : ℕ) (v : VirtualCpu) → 1 ≤ π .quantum → vcpuAt s j ≡ dispatched v p now → hot s π now j ≡ false
 unfolding standings dispatched
-dispatched-cold s π now j p v h e = rw (e, lt-leb (π .quantum) (now - now) (omega arith)) (off (present s j))
-  where
-    off : (b : Bool) → (b && false) ≡ false
-    off true = refl
-    off false = refl
+dispatched-cold s π now j p v h e = rw (e, lt-leb (π .quantum) (now - now) (omega arith)) (and-false (present s j))
 
 -- ---- the sum
 

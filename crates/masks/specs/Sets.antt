@@ -1,6 +1,6 @@
 -- The set of the pCPUs below n that f holds of, as a number, and its laws. Assumes nothing.
 use mathlib.Core.Path.{_≡_, refl, sym, ap, ap₂, _∙_}
-use mathlib.Core.Bool.{Bool, true, false, cond, _&&_}
+use mathlib.Core.Bool.{Bool, true, false, cond, _&&_, and-false}
 use mathlib.Core.Logic.{_⊎_, inl, inr}
 use Prim.Native.Nat.{ℕ, zero, suc, _+_, _*_, _/_, _%_, _^_, _≤_, _<_}
 use native.Mathlib.Nat.{eq-or-lt-of-le, div-eq-of-lt, lt-of-lt-of-le, one-mul, add-zero, add-mul-mod-self-right}
@@ -53,10 +53,6 @@ setOf-bit f (suc k) p l = go (eq-or-lt-of-le l) (λ m. setOf-bit f k p m)
 pub setOf-permits : (f : ℕ → Bool) (k p : ℕ) → k ≤ 64 → permits (setOf f k) p ≡ (ltb p k && f p)
 setOf-permits f k p h = go (ltb p k) refl
   where
-    past : (b : Bool) → (b && false) ≡ false
-    past true = refl
-    past false = refl
-
     go : (t : Bool) → ltb p k ≡ t → (ltb p 64 && bit (setOf f k) p) ≡ (t && f p)
     go true e =
         let l = ltb-true p k e in
@@ -64,7 +60,7 @@ setOf-permits f k p h = go (ltb p k) refl
     go false e =
         let l = ltb-false p k e in
         let z : bit (setOf f k) p ≡ false = ap (λ (x : ℕ). eqb (x % 2) 1) (div-eq-of-lt (lt-of-lt-of-le (setOf-below f k) (pow-mono l))) in
-        rw z (past (ltb p 64))
+        rw z (and-false (ltb p 64))
 
 -- two sets that agree everywhere but at p
 pub setOf-change : (f g : ℕ → Bool) (k p : ℕ) → p < k → ((q : ℕ) → q < k → (q ≡ p → ⊥) → f q ≡ g q)

@@ -1,6 +1,6 @@
 -- A turn of `accounted` renews the account of its slot. Assumes nothing.
 use Prim.Native.Nat.{ℕ, suc, _/_, _%_, _≤_, _<_, min, max}
-use mathlib.Core.Bool.{Bool, true, false, cond, not, _&&_}
+use mathlib.Core.Bool.{Bool, true, false, cond, not, _&&_, and-false}
 use mathlib.Core.Path.{_≡_, refl, sym, _∙_, ap}
 use mathlib.Core.List.{List}
 use native.Mathlib.Omega.{arith}
@@ -20,10 +20,6 @@ use Rattle.policy.proofs.AccountLaws.{Tabled, same-covers, renew-same, 
 use Rattle.policy.specs.Loops.{Leads, none, one, liftedTo, renewedAt}
 use Rattle.policy.proofs.Ids.{vcpu-below, vcpu-beyond}
 use Rattle.policy.proofs.Stored.{zeros, looked}
-
-and-false : (a : Bool) → (a && false) ≡ false
-and-false true = refl
-and-false false = refl
 
 module _ (s : System) (π : Scheduler) (now i : ℕ) where
   abbrev account : Account

@@ -4,7 +4,7 @@ use mathlib.Core.Bool.{true, false}
 use mathlib.Core.List.{List, [], _∷_}
 use Prim.Native.Nat.{ℕ, zero, suc, _+_, _*_, _-_, _%_, _^_, _<_, min}
 use native.Mathlib.Nat.{le-refl, le-of-lt, lt-of-le-of-lt, min-le-right, mul-le-mul-right, mul-lt-mul-of-pos-left}
-use native.Mathlib.Nat.{add-comm, mod-one, mod-eq-of-lt, pow-suc}
+use native.Mathlib.Nat.{add-comm, mod-one, mod-eq-of-lt, pow-suc, one-le-pow}
 use native.Mathlib.Omega.{arith}
 use lib.Arith.{digits-div, digits-mod, digits-lt, mod-mul}
 use lib.Dec.{lit<, ltb}
@@ -18,14 +18,10 @@ below-lid n m h = omega arith
 
 -- ---- steps to the laws: any number of limbs
 
-base-pos : (k : ℕ) → 0 < (2 ^ 32) ^ k
-base-pos zero = lit< tt
-base-pos (suc k) = rw (pow-suc (2 ^ 32) k) (omega (arith, base-pos k))
-
 value-limbs : (k n : ℕ) → value (limbs k n) ≡ n % (2 ^ 32) ^ k
 unfolding limbs value
 value-limbs zero n = sym (mod-one n)
-value-limbs (suc k) n = rw (pow-suc (2 ^ 32) k, value-limbs k) (sym (mod-mul n (base-pos k) (lit< tt)))
+value-limbs (suc k) n = rw (pow-suc (2 ^ 32) k, value-limbs k) (sym (mod-mul n (one-le-pow k (2 ^ 32) (lit< tt)) (lit< tt)))
 
 limbs-value : (l : List ℕ) → ((i : ℕ) → getD l i 0 < 2 ^ 32) → limbs (length l) (value l) ≡ l
 unfolding limbs value

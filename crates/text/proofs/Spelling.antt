@@ -4,7 +4,7 @@ use mathlib.Core.Bool.{Bool, true, false}
 use lib.Dec.{leb}
 use mathlib.Core.Path.{_≡_, refl, _∙_, ap, ap₂}
 use mathlib.Core.List.{[], _∷_, _++_}
-use native.Mathlib.Nat.{pow-suc, pow-le-pow-right}
+use native.Mathlib.Nat.{pow-suc, one-le-pow, pow-le-pow-right}
 use native.Mathlib.Numerals.{sub-one}
 use native.Mathlib.Omega.{arith}
 use borrow.Author.Tests.{lt-ltb, le-ltb, leb-true, leb-false}
@@ -27,15 +27,11 @@ spelled (suc (suc k)) (suc f) n l h =
     let below : n < 10 ^ suc k * 10 = rw (pow-suc 10 (suc k)) at (h .1) in
     let above : 10 ^ suc k ≤ n = rw sub-one at (h .2 (omega arith)) in
     let least = pow-suc 10 k in
-    let more : 10 ≤ n = omega (arith, least, one k) in
+    let more : 10 ≤ n = omega (arith, least, one-le-pow k 10 (omega arith)) in
     rw (le-ltb n 10 more)
     (ap₂ (λ a d. a ++ (d ∷ []))
     (spelled (suc k) f (n / 10) (omega arith) (omega arith, omega arith, (λ m. rw sub-one (omega (arith, least)))))
     (glyph-digit n))
-  where
-    one : (k : ℕ) → 1 ≤ 10 ^ k
-    one zero = omega arith
-    one (suc k) = omega (arith, one k, pow-suc 10 k)
 
 pub spelled-decimal : (k n : ℕ) → k ≤ 20 → Fewest 10 1 n k → io.digits 10 k n ≡ decimal n
 unfolding decimal
