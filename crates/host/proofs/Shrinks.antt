@@ -11,7 +11,7 @@ use Rattle.system.specs.declared.VirtualCpu.{VirtualCpu}
 use Rattle.system.specs.declared.Occupant.{Occupant}
 use Rattle.system.specs.declared.System.{System}
 use Rattle.system.specs.Reads.{domains, vcpus, pcpus, slot, vcpuAt, fullAffinity}
-use Rattle.system.specs.Writes.{Tables, SameShape, Wrote, wrote-vcpu, wrote-both}
+use Rattle.system.specs.Writes.{Tables, SameShape, shape-refl, shape-trans, Wrote, wrote-vcpu, wrote-both}
 use Rattle.verdict.specs.Sound.{Present, Sound}
 use Rattle.sched.specs.declared.Request.{Request}
 use Rattle.sched.specs.declared.Change.{Change}
@@ -31,18 +31,12 @@ pub record Shrinks (s s′ : System) : Type 0 where
   pub same : (j : ℕ) → Present s′ j → Pool (stateAt s′ j) → vcpuAt s′ j ≡ vcpuAt s j
 
 pub shrinks-refl : (s : System) → Shrinks s s
-shrinks-refl s = record { shape = record { domains = refl; vcpus = refl; pcpus = refl; tables = λ t. t }; same = λ j h p. refl }
+shrinks-refl s = record { shape = shape-refl s; same = λ j h p. refl }
 
 shrinks-then : {a b c : System} → Shrinks a b → Shrinks b c → Shrinks a c
 shrinks-then {a} {b} {c} x y =
     record {
-      shape =
-          record {
-            domains = y .shape .domains ∙ x .shape .domains;
-            vcpus = y .shape .vcpus ∙ x .shape .vcpus;
-            pcpus = y .shape .pcpus ∙ x .shape .pcpus;
-            tables = λ t. y .shape .tables (x .shape .tables t);
-          };
+      shape = shape-trans (x .shape) (y .shape);
       same = λ j h p.
           let e = y .same j h p in
           e ∙ x .same j (present-back (y .shape) h) (subst (λ (v : VirtualCpu). Pool (v .state)) e p);

@@ -1,14 +1,13 @@
 -- What every call keeps: soundness and the shape; run times never fall. Assumes nothing.
 use Prim.Native.Nat.{ℕ, zero, suc, _/_, _%_, _≤_, _<_}
-use mathlib.Core.Path.{refl, _∙_, subst₂}
+use mathlib.Core.Path.{refl, subst₂}
 use native.Mathlib.Nat.{le-trans}
 use native.Mathlib.Omega.{arith}
-use lib.ListN.{length-set}
 use Rattle.system.specs.declared.RunState.the-variants.{Offline}
 use Rattle.system.specs.declared.Occupant.the-variants.{Idle, Vcpu}
 use Rattle.system.specs.declared.System.{System}
 use Rattle.system.specs.Reads.{domains, vcpus, pcpus, slot, vcpuAt, occupantAt, fullAffinity}
-use Rattle.system.specs.Writes.{putVcpu, putOccupant, Tables, SameShape, wrote-vcpu, wrote-both}
+use Rattle.system.specs.Writes.{putVcpu, Tables, SameShape, shape-refl, shape-trans, vcpu-shape, occupant-shape, wrote-vcpu, wrote-both}
 use Rattle.verdict.specs.Sound.{Present, Sound}
 use Rattle.sched.specs.declared.Request.{Request}
 use Rattle.sched.specs.declared.Change.{Change}
@@ -36,21 +35,12 @@ apply-sound {s} {i} t S h (comes-off {v} {p} now on k) =
 -- ---- every call
 
 pub unchanged : {s : System} → Sound s → Keeps s s
-unchanged {s} S = record { shape = same-shape s; sound = S; times = λ w. record { time = λ j. omega arith; word = w } }
-  where
-    same-shape : (s : System) → SameShape s s
-    same-shape s = record { domains = refl; vcpus = refl; pcpus = refl; tables = λ t. t }
+unchanged {s} S = record { shape = shape-refl s; sound = S; times = λ w. record { time = λ j. omega arith; word = w } }
 
 pub and-then : {a b c : System} → Keeps a b → Keeps b c → Keeps a c
 and-then x y =
     record {
-      shape =
-          record {
-            domains = y .shape .domains ∙ x .shape .domains;
-            vcpus = y .shape .vcpus ∙ x .shape .vcpus;
-            pcpus = y .shape .pcpus ∙ x .shape .pcpus;
-            tables = λ t. y .shape .tables (x .shape .tables t);
-          };
+      shape = shape-trans (x .shape) (y .shape);
       sound = y .sound;
       times = λ w.
           let g = x .times w in
@@ -59,22 +49,10 @@ and-then x y =
     }
 
 apply-shape : (s : System) (i : ℕ) (c : Change) → SameShape s ((applied s i c) .system)
-unfolding applied putVcpu putOccupant
-apply-shape s i (Refuse a) = record { domains = refl; vcpus = refl; pcpus = refl; tables = λ t. t }
-apply-shape s i (Write v) =
-    record {
-      domains = refl;
-      vcpus = refl;
-      pcpus = refl;
-      tables = λ t. record { vcpus = length-set (s .vcpus) i v ∙ t .vcpus; pcpus = t .pcpus };
-    }
-apply-shape s i (Move v p o) =
-    record {
-      domains = refl;
-      vcpus = refl;
-      pcpus = refl;
-      tables = λ t. record { vcpus = length-set (s .vcpus) i v ∙ t .vcpus; pcpus = length-set (s .pcpus) p _ ∙ t .pcpus };
-    }
+unfolding applied
+apply-shape s i (Refuse a) = shape-refl s
+apply-shape s i (Write v) = vcpu-shape s i v
+apply-shape s i (Move v p o) = shape-trans (vcpu-shape s i v) (occupant-shape (putVcpu s i v) p o)
 
 pub apply-keeps : {s : System} {i : ℕ} {c : Change} → Tables s → Sound s → Present s i → Legal s i c → Keeps s ((applied s i c) .system)
 apply-keeps {s} {i} {c} t S h l = record { shape = apply-shape s i c; sound = apply-sound t S h l; times = λ w. applied-grows t S h w l }

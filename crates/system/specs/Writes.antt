@@ -46,6 +46,39 @@ pub record SameShape (s s′ : System) : Type 0 where
   pub pcpus : s′ .«pcpu_count» ≡ s .«pcpu_count»
   pub tables : Tables s → Tables s′
 
+pub shape-refl : (s : System) → SameShape s s
+shape-refl s = record { domains = refl; vcpus = refl; pcpus = refl; tables = λ t. t }
+
+pub shape-trans : {a b c : System} → SameShape a b → SameShape b c → SameShape a c
+shape-trans x y =
+    record {
+      domains = y .domains ∙ x .domains;
+      vcpus = y .vcpus ∙ x .vcpus;
+      pcpus = y .pcpus ∙ x .pcpus;
+      tables = λ t. y .tables (x .tables t);
+    }
+
+-- neither write changes the shape
+pub vcpu-shape : (s : System) (i : ℕ) (v : VirtualCpu) → SameShape s (putVcpu s i v)
+unfolding putVcpu
+vcpu-shape s i v =
+    record {
+      domains = refl;
+      vcpus = refl;
+      pcpus = refl;
+      tables = λ t. record { vcpus = length-set (s .vcpus) i v ∙ t .vcpus; pcpus = t .pcpus };
+    }
+
+pub occupant-shape : (s : System) (p : ℕ) (o : Occupant) → SameShape s (putOccupant s p o)
+unfolding putOccupant
+occupant-shape s p o =
+    record {
+      domains = refl;
+      vcpus = refl;
+      pcpus = refl;
+      tables = λ t. record { vcpus = t .vcpus; pcpus = length-set (s .pcpus) p (record { occupant = o }) ∙ t .pcpus };
+    }
+
 -- s′ is s but for what stands at slot i and who holds pCPU p
 pub record Wrote (s s′ : System) (i : ℕ) (v : VirtualCpu) (p : ℕ) (o : Occupant) : Type 0 where
   pub shape : SameShape s s′
@@ -54,43 +87,29 @@ pub record Wrote (s s′ : System) (i : ℕ) (v : VirtualCpu) (p : ℕ) (o : Occ
   pub onto : occupantAt s′ p ≡ o
   pub others : (q : ℕ) → q ≢ p → occupantAt s′ q ≡ occupantAt s q
 
-abbrev occ : PhysicalCpu → Occupant
-occ c = c .occupant
-
 pub wrote-vcpu : (s : System) (i : ℕ) (v : VirtualCpu) (p : ℕ) → Tables s → i < 128 → Wrote s (putVcpu s i v) i v p (occupantAt s p)
 unfolding vcpuAt occupantAt putVcpu
 wrote-vcpu s i v p t hi =
     record {
-      shape =
-          record {
-            domains = refl;
-            vcpus = refl;
-            pcpus = refl;
-            tables = λ u. record { vcpus = length-set (s .vcpus) i v ∙ u .vcpus; pcpus = u .pcpus };
-          };
+      shape = vcpu-shape s i v;
       here = getD-set-same (s .vcpus) i v offline (omega (arith, t .vcpus));
       there = λ j n. getD-set-other (s .vcpus) i j v offline n;
       onto = refl;
       others = λ q n. refl;
     }
 
+abbrev occ : PhysicalCpu → Occupant
+occ c = c .occupant
+
 pub wrote-both : (s : System) (i : ℕ) (v : VirtualCpu) (p : ℕ) (o : Occupant) → Tables s → i < 128 → p < 64
     → Wrote s (putOccupant (putVcpu s i v) p o) i v p o
 unfolding vcpuAt occupantAt putVcpu putOccupant
 wrote-both s i v p o t hi hp =
+    let w = wrote-vcpu s i v p t hi in
     record {
-      shape =
-          record {
-            domains = refl;
-            vcpus = refl;
-            pcpus = refl;
-            tables = λ u. record {
-              vcpus = length-set (s .vcpus) i v ∙ u .vcpus;
-              pcpus = length-set (s .pcpus) p (record { occupant = o }) ∙ u .pcpus;
-            };
-          };
-      here = getD-set-same (s .vcpus) i v offline (omega (arith, t .vcpus));
-      there = λ j n. getD-set-other (s .vcpus) i j v offline n;
+      shape = shape-trans (w .shape) (occupant-shape (putVcpu s i v) p o);
+      here = w .here;
+      there = w .there;
       onto = ap occ (getD-set-same (s .pcpus) p (record { occupant = o }) idle (omega (arith, t .pcpus)));
       others = λ q n. ap occ (getD-set-other (s .pcpus) p q (record { occupant = o }) idle n);
     }
