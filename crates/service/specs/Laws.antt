@@ -1,12 +1,12 @@
 -- What callers may rely on: limbs and their value, and the order of two vCPUs by service. Assumes nothing.
-use mathlib.Core.Path.{_≡_, refl, sym, ap, _∙_}
+use mathlib.Core.Path.{_≡_, sym, ap, _∙_}
 use mathlib.Core.Bool.{true, false}
 use mathlib.Core.List.{List, [], _∷_}
 use Prim.Native.Nat.{ℕ, zero, suc, _+_, _*_, _-_, _%_, _^_, _<_, min}
 use native.Mathlib.Nat.{le-refl, le-of-lt, lt-of-le-of-lt, min-le-right, mul-le-mul-right, mul-lt-mul-of-pos-left}
 use native.Mathlib.Nat.{add-comm, mod-one, mod-eq-of-lt, pow-suc, one-le-pow}
 use native.Mathlib.Omega.{arith}
-use lib.Arith.{digits-div, digits-mod, digits-lt, mod-mul}
+use lib.Arith.{digits-lt, mod-mul}
 use lib.Dec.{lit<, ltb}
 use lib.ListN.{length, getD}
 use borrow.Author.Tests.{ltb-true, le-ltb}
@@ -22,11 +22,6 @@ value-limbs : (k n : ℕ) → value (limbs k n) ≡ n % (2 ^ 32) ^ k
 unfolding limbs value
 value-limbs zero n = sym (mod-one n)
 value-limbs (suc k) n = rw (pow-suc (2 ^ 32) k, value-limbs k) (sym (mod-mul n (one-le-pow k (2 ^ 32) (lit< tt)) (lit< tt)))
-
-limbs-value : (l : List ℕ) → ((i : ℕ) → getD l i 0 < 2 ^ 32) → limbs (length l) (value l) ≡ l
-unfolding limbs value
-limbs-value [] h = refl
-limbs-value (x ∷ l) h = rw (digits-div (value l) (h 0), digits-mod (value l) (h 0), limbs-value l (λ i. h (suc i)))
 
 value-bound : (l : List ℕ) → ((i : ℕ) → getD l i 0 < 2 ^ 32) → value l < (2 ^ 32) ^ length l
 unfolding value
@@ -47,11 +42,6 @@ held-exact n h = value-held n ∙ below-lid n (2 ^ 128) h
 -- four limbs are worth less than 2 ^ 128
 pub value-below : (l : List ℕ) → length l ≡ 4 → ((i : ℕ) → getD l i 0 < 2 ^ 32) → value l < 2 ^ 128
 value-below l e h = rw e at (value-bound l h)
-
--- four limbs are those of their value
-pub held-value : (l : List ℕ) → length l ≡ 4 → ((i : ℕ) → getD l i 0 < 2 ^ 32) → held (value l) ≡ l
-unfolding held
-held-value l e h = ap (limbs 4) (below-lid (value l) (2 ^ 128) (value-below l e h)) ∙ (rw e at (limbs-value l h))
 
 lid-sum : (a b m : ℕ) → min (min a m + b) m ≡ min (a + b) m
 lid-sum a b m = omega arith
