@@ -2,8 +2,8 @@
 use Prim.Native.Nat.{ℕ, _/_, _%_}
 use mathlib.Core.Bool.{Bool, true, false, cond}
 use mathlib.Core.Path.{_≡_, refl, sym, _∙_, ap}
-use native.Mathlib.Omega.{arith}
 use borrow.Author.Tests.{lt-ltb}
+use Rattle.masks.specs.Conj.{zero-one}
 use Rattle.system.specs.declared.System.{System}
 use Rattle.system.specs.declared.Answer.the-variants.{Unsound}
 use Rattle.system.specs.Answers.{told, Outcome}
@@ -60,7 +60,7 @@ module _ (s : System) (π : Scheduler) (now : ℕ) where
   -- who is told to run a vCPU, and runs it, is told 0
   pub next-run-accepted : (d v p : ℕ) → (next s π now) .decision ≡ decision.Run d v p → (run s d v p now) .number ≡ 0
   next-run-accepted d v p e =
-      let x = decided (decision.Run d v p) (λ f. let z : _≡_ {A = ℕ} 0 1 = cc in omega arith) e in
+      let x = decided (decision.Run d v p) (λ f. zero-one cc) e in
       go (x .0) (choice s π now) refl (x .1)
     where
       go : Sound s → (c : Choice) → choice s π now ≡ c → named c ≡ decision.Run d v p → (run s d v p now) .number ≡ 0
@@ -70,13 +70,13 @@ module _ (s : System) (π : Scheduler) (now : ℕ) where
           let k : q ≡ p = cc in
           let c = choice-run s π now i q f in
           rw (← a, ← b, ← k) (ap (λ (r : Outcome). r .number) (sym (enacted-run s S now i q c) ∙ run-enacted s now i q c))
-      go S (Preempt i q) f h = absurd (let z : _≡_ {A = ℕ} 0 1 = cc in omega arith)
-      go S Rest f h = absurd (let z : _≡_ {A = ℕ} 0 1 = cc in omega arith)
+      go S (Preempt i q) f h = absurd (zero-one cc)
+      go S Rest f h = absurd (zero-one cc)
 
   -- and so is who is told to preempt one, and does
   pub next-preempt-accepted : (d v p : ℕ) → (next s π now) .decision ≡ decision.Preempt d v p → (preempt s d v now) .number ≡ 0
   next-preempt-accepted d v p e =
-      let x = decided (decision.Preempt d v p) (λ f. let z : _≡_ {A = ℕ} 0 1 = cc in omega arith) e in
+      let x = decided (decision.Preempt d v p) (λ f. zero-one cc) e in
       go (x .0) (choice s π now) refl (x .1)
     where
       go : Sound s → (c : Choice) → choice s π now ≡ c → named c ≡ decision.Preempt d v p → (preempt s d v now) .number ≡ 0
@@ -85,5 +85,5 @@ module _ (s : System) (π : Scheduler) (now : ℕ) where
           let b : i % 8 ≡ v = cc in
           let c = choice-preempt s π now i q f in
           rw (← a, ← b) (ap (λ (r : Outcome). r .number) (sym (enacted-preempt s S now i q π c) ∙ preempt-enacted s now i q π c))
-      go S (Run i q) f h = absurd (let z : _≡_ {A = ℕ} 0 1 = cc in omega arith)
-      go S Rest f h = absurd (let z : _≡_ {A = ℕ} 0 1 = cc in omega arith)
+      go S (Run i q) f h = absurd (zero-one cc)
+      go S Rest f h = absurd (zero-one cc)

@@ -6,6 +6,7 @@ use mathlib.Core.Path.{_≡_, refl, sym, ap}
 use mathlib.Core.Logic.{_≢_}
 use native.Mathlib.Omega.{arith}
 use borrow.Author.Tests.{lt-leb}
+use Rattle.masks.specs.Conj.{zero-one}
 use Rattle.system.specs.declared.RunState.the-variants.{Runnable}
 use Rattle.system.specs.declared.VirtualCpu.{VirtualCpu}
 use Rattle.system.specs.declared.Occupant.{Occupant}
@@ -104,7 +105,7 @@ run-cools s π now i p h t S c =
     w = run-wrote s now i p t c
 
     alone : (q d u : ℕ) → q < pcpus s → q ≢ p → occupantAt s q ≡ Vcpu d u → slot d u ≢ i
-    alone q d u m n e x = let g = S .held q d u m e in let r = g .on in let y = c .ready in let z : _≡_ {A = ℕ} 0 1 = cc in omega arith
+    alone q d u m n e x = let g = S .held q d u m e in let r = g .on in let y = c .ready in zero-one cc
 
     before : heat s π now p ≡ 1
     before = rw (c .free)

@@ -5,6 +5,7 @@ use mathlib.Core.Path.{_≡_, refl, sym, _∙_, ap, subst}
 use mathlib.Core.Logic.{_≢_}
 use native.Mathlib.Omega.{arith}
 use native.Mathlib.Decide.{ℕ-discrete}
+use Rattle.masks.specs.Conj.{zero-one}
 use Rattle.system.specs.declared.RunState.{RunState}
 use Rattle.system.specs.declared.RunState.the-variants.{Runnable, Running}
 use Rattle.system.specs.declared.VirtualCpu.{VirtualCpu}
@@ -107,7 +108,7 @@ module _ (w : ℕ → ℕ) (pos : (i : ℕ) → 0 < w i) (lim : ℕ) where
       pool a (no n) h = subst Pool (state-there q a n) h
 
       not-i : (a x : ℕ) → stateAt s′ a ≡ Running x → a ≢ i
-      not-i a x h e = let g = state-here q in let z : _≡_ {A = ℕ} 0 1 = cc in omega arith
+      not-i a x h e = let g = state-here q in zero-one cc
 
       lag′ : (a j : ℕ) → Present s a → Present s j → Pool (stateAt s a) → stateAt s′ j ≡ Runnable → Dec (j ≡ i)
           → rawService s now a * w j ≤ rawService s now j * w a + lim * w j
@@ -178,7 +179,7 @@ module _ (w : ℕ → ℕ) (pos : (i : ℕ) → 0 < w i) (lim : ℕ) where
       pool a (no n) h = subst Pool (state-there q a n) h
 
       not-i : (a : ℕ) → stateAt s′ a ≡ Runnable → a ≢ i
-      not-i a h x = let g = state-here q in let z : _≡_ {A = ℕ} 0 1 = cc in omega arith
+      not-i a h x = let g = state-here q in zero-one cc
 
       waited : (a : ℕ) → stateAt s′ a ≡ Runnable → stateAt s a ≡ Runnable
       waited a h = sym (state-there q a (not-i a h)) ∙ h

@@ -9,6 +9,7 @@ use native.Mathlib.Decide.{ℕ-discrete}
 use lib.Dec.{eqb}
 use lib.ListN.{length}
 use borrow.Author.Tests.{eq-eqb, ne-eqb}
+use Rattle.masks.specs.Conj.{zero-one}
 use Rattle.system.specs.declared.System.{System}
 use Rattle.system.specs.Reads.{pcpus, occupantAt}
 use Rattle.system.specs.Writes.{Tables}
@@ -121,4 +122,4 @@ advance-rests π now s h t S = settle-rests π now (limit s) s h t S (omega (ari
 
 -- at rest nobody waits beside an idle pCPU that its mask admits
 pub rest-quiet : (s : System) (π : Scheduler) (now i p : ℕ) → choice s π now ≡ Rest → CanRun s i p → ⊥
-rest-quiet s π now i p e c = let r = choice-complete s π now i p c in let z : _≡_ {A = ℕ} 0 1 = cc in omega arith
+rest-quiet s π now i p e c = let r = choice-complete s π now i p c in zero-one cc

@@ -5,6 +5,7 @@ use mathlib.Core.Path.{_≡_, refl, sym, _∙_, ap, subst}
 use mathlib.Core.Logic.{_⊎_, inl, inr}
 use mathlib.Core.List.{List, [], _∷_, _++_}
 use native.Mathlib.Omega.{arith}
+use Rattle.masks.specs.Conj.{zero-one}
 use Rattle.service.specs.Service.{value}
 use Rattle.system.specs.declared.System.{System}
 use Rattle.system.specs.Answers.{Outcome}
@@ -196,7 +197,7 @@ rest-along {h = h} {g = g} {t = t} (c ∷ bs) rest (lists.PoolRest.refused n r) 
     (rest-along bs rest r (f .1) (step-goes c K .kept) (subst (Bounded g t) (sym (refused-same c K n)) p))
 
 never-at : (t : ℕ) → lists.never ≡ lists.at t → ⊥
-never-at t e = let z : _≡_ {A = ℕ} 0 1 = cc in omega arith
+never-at t e = zero-one cc
 
 prepares-no-advance : {c : Call} → Prepares c → clockOf c ≡ lists.never
 prepares-no-advance (lists.Prepares.admit d v) = refl

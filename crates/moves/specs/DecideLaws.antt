@@ -6,7 +6,7 @@ use native.Mathlib.Nat.{le-refl, lt-of-not-le}
 use native.Mathlib.Decide.{decLe}
 use native.Mathlib.Omega.{arith}
 use borrow.Author.Tests.{ltb-true, lt-ltb}
-use Rattle.masks.specs.Conj.{both, all-two}
+use Rattle.masks.specs.Conj.{both, all-two, zero-one}
 use Rattle.masks.specs.Masks.{permits, first}
 use Rattle.masks.specs.Laws.{first-least}
 use Rattle.moves.specs.declared.Choice.{Choice}
@@ -89,25 +89,25 @@ run-why t n i p e = go (chosen t n) refl (victim t n) e
   where
     go : (r : Pick) → chosen t n ≡ r → (q : Pick) → orRun t r (orPreempt t q) ≡ Run i p → (chosen t n ≡ at i) × (placement t i ≡ p)
     go (at j) c q h = let a : j ≡ i = cc in let b : placement t j ≡ p = cc in rw (← a) (c, b)
-    go nobody c (at j) h = absurd (let z : _≡_ {A = ℕ} 0 1 = cc in omega arith)
-    go nobody c nobody h = absurd (let z : _≡_ {A = ℕ} 0 1 = cc in omega arith)
+    go nobody c (at j) h = absurd (zero-one cc)
+    go nobody c nobody h = absurd (zero-one cc)
 
 preempt-why : (t : Standings) (n i p : ℕ) → decide t n ≡ Preempt i p → (victim t n ≡ at i) × (t .on i ≡ p)
 unfolding decide
 preempt-why t n i p e = go (chosen t n) (victim t n) refl e
   where
     go : (r q : Pick) → victim t n ≡ q → orRun t r (orPreempt t q) ≡ Preempt i p → (victim t n ≡ at i) × (t .on i ≡ p)
-    go (at j) q v h = absurd (let z : _≡_ {A = ℕ} 0 1 = cc in omega arith)
+    go (at j) q v h = absurd (zero-one cc)
     go nobody (at j) v h = let a : j ≡ i = cc in let b : t .on j ≡ p = cc in rw (← a) (v, b)
-    go nobody nobody v h = absurd (let z : _≡_ {A = ℕ} 0 1 = cc in omega arith)
+    go nobody nobody v h = absurd (zero-one cc)
 
 rest-why : (t : Standings) (n : ℕ) → decide t n ≡ Rest → victim t n ≡ nobody
 unfolding decide
 rest-why t n e = go (chosen t n) (victim t n) e
   where
     go : (r q : Pick) → orRun t r (orPreempt t q) ≡ Rest → q ≡ nobody
-    go (at j) q h = absurd (let z : _≡_ {A = ℕ} 0 1 = cc in omega arith)
-    go nobody (at j) h = absurd (let z : _≡_ {A = ℕ} 0 1 = cc in omega arith)
+    go (at j) q h = absurd (zero-one cc)
+    go nobody (at j) h = absurd (zero-one cc)
     go nobody nobody h = refl
 
 -- ---- the laws

@@ -6,6 +6,7 @@ use mathlib.Core.Logic.{_⊎_, inl, inr}
 use mathlib.Core.Bool.{Bool, true, false, cond, true≢false}
 use native.Mathlib.Omega.{arith}
 use native.Mathlib.Nat.{eq-or-lt-of-le}
+use Rattle.masks.specs.Conj.{zero-one}
 
 pub data Pick : Type 0 where
   nobody : Pick
@@ -40,7 +41,7 @@ module _ (c : ℕ → Bool) (b : ℕ → ℕ → Bool) where
   -- the pick passes
   pub scan-sound : (n i : ℕ) → scan c b n ≡ at i → (i < n) × (c i ≡ true)
   unfolding scan
-  scan-sound zero i h = let z : _≡_ {A = ℕ} 0 1 = cc in absurd (omega arith)
+  scan-sound zero i h = absurd (zero-one cc)
   scan-sound (suc k) i h = step (c k) refl (scan c b k) (λ e. scan-sound k i e) h
     where
       step : (t : Bool) → c k ≡ t → (r : Pick) → (r ≡ at i → (i < k) × (c i ≡ true)) → cond t (against b k r) r ≡ at i
@@ -65,12 +66,12 @@ module _ (c : ℕ → Bool) (b : ℕ → ℕ → Bool) where
           split : (i ≡ k) ⊎ (i < k) → ⊥
           split (inl x) = clash (c i) y (ap c x ∙ e)
           split (inr m) = ih m g
-      step true e nobody ih g = let z : _≡_ {A = ℕ} 0 1 = cc in omega arith
+      step true e nobody ih g = zero-one cc
       step true e (at j) ih g = go (b k j) g
         where
           go : (u : Bool) → cond u (at k) (at j) ≡ nobody → ⊥
-          go true f = let z : _≡_ {A = ℕ} 0 1 = cc in omega arith
-          go false f = let z : _≡_ {A = ℕ} 0 1 = cc in omega arith
+          go true f = zero-one cc
+          go false f = zero-one cc
 
 -- b ranks those of whom P is true: it is a strict weak order among them
 pub record Ranks (P : ℕ → Type 0) (b : ℕ → ℕ → Bool) : Type 0 where
@@ -114,7 +115,7 @@ module _ (c : ℕ → Bool) (b : ℕ → ℕ → Bool) {P : ℕ → Type 0} (R :
   -- and the pick is better than whoever passes before it
   pub scan-earliest : (n i j : ℕ) → n ≤ m → scan c b n ≡ at i → j < i → c j ≡ true → b i j ≡ true
   unfolding scan
-  scan-earliest zero i j w h l y = let z : _≡_ {A = ℕ} 0 1 = cc in absurd (omega arith)
+  scan-earliest zero i j w h l y = absurd (zero-one cc)
   scan-earliest (suc k) i j w h l y =
       step (c k) refl (scan c b k) (λ x e. scan-earliest k x j (omega arith) e) (λ x e o. scan-least k x j (omega arith) e o y)
       (λ o. scan-complete c b k j o y) (λ x. scan-sound c b k x) h

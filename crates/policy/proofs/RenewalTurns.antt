@@ -7,6 +7,7 @@ use native.Mathlib.Omega.{arith}
 use lib.Dec.{ltb}
 use lib.ListN.{getD, set}
 use borrow.Author.Tests.{ltb-true, lt-ltb, le-ltb}
+use Rattle.masks.specs.Conj.{zero-one}
 use Rattle.service.specs.Service.{held}
 use Rattle.system.specs.declared.System.{System}
 use Rattle.system.specs.Reads.{slot, vcpuAt}
@@ -55,7 +56,7 @@ module _ (s : System) (π : Scheduler) (now i : ℕ) where
   passed e = rw (same-covers (renew-same s π now i) (i / 8) (i % 8)) (go (present s i) (covers π (i / 8) (i % 8)) _ _ e)
     where
       go : (a b : Bool) (x y : Scheduler) → (a && b) ≡ false → cond a (cond b x y) y ≡ y
-      go true true x y e = absurd (let z : _≡_ {A = ℕ} 0 1 = cc in omega arith)
+      go true true x y e = absurd (zero-one cc)
       go true false x y e = refl
       go false b x y e = refl
 

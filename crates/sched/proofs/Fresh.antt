@@ -3,6 +3,7 @@ use Prim.Native.Nat.{ℕ, _≤_, _<_}
 use mathlib.Core.Path.{_≡_, sym, _∙_, ap}
 use native.Mathlib.Omega.{arith}
 use lib.ListN.{length-replicate, getD-replicate}
+use Rattle.masks.specs.Conj.{zero-one}
 use Rattle.system.specs.declared.RunState.the-variants.{Offline, Running}
 use Rattle.system.specs.declared.VirtualCpu.{VirtualCpu}
 use Rattle.system.specs.declared.Occupant.the-variants.{Idle, Vcpu}
@@ -37,7 +38,7 @@ fresh-sound d v p hd hv hp =
     }
   where
     off : {q : ℕ} → Offline ≡ Running q → ⊥
-    off e = let z : _≡_ {A = ℕ} 0 1 = cc in omega arith
+    off e = zero-one cc
 
     free : {a b : ℕ} → Idle ≡ Vcpu a b → ⊥
-    free e = let z : _≡_ {A = ℕ} 0 1 = cc in omega arith
+    free e = zero-one cc

@@ -5,6 +5,7 @@ use mathlib.Core.Path.{_≡_, sym, _∙_, ap}
 use native.Mathlib.Omega.{arith}
 use native.Mathlib.Decide.{ℕ-discrete}
 use Rattle.masks.specs.Masks.{permits}
+use Rattle.masks.specs.Conj.{zero-one}
 use Rattle.system.specs.declared.RunState.{RunState}
 use Rattle.system.specs.declared.RunState.the-variants.{Running}
 use Rattle.system.specs.declared.VirtualCpu.{VirtualCpu}
@@ -95,7 +96,7 @@ module _ {s s′ : System} {i p : ℕ} {v : VirtualCpu} where
       runs′ j q h e (no j≢i) =
           let f = w .there j j≢i in
           let o = S .runs j q (present-back (w .shape) h) (cc) in
-          let g = w .others q (λ (x : q ≡ p). let z : _≡_ {A = ℕ} 0 1 = cc in omega arith) in
+          let g = w .others q (λ (x : q ≡ p). zero-one cc) in
           let k = o .exists in
           record { exists = omega arith; back = cc; admits = cc }
 
@@ -110,7 +111,7 @@ module _ {s s′ : System} {i p : ℕ} {v : VirtualCpu} where
           let g = w .others q q≢p in
           let h = S .held q d u (omega arith) (sym g ∙ e) in
           let r = h .on in
-          let f = w .there (slot d u) (λ (x : slot d u ≡ i). let z : _≡_ {A = ℕ} 0 1 = cc in omega arith) in
+          let f = w .there (slot d u) (λ (x : slot d u ≡ i). zero-one cc) in
           record { domain = omega (arith, w .shape .domains, h .domain); vcpu = omega (arith, w .shape .vcpus, h .vcpu); on = cc }
 
   -- a vCPU comes off its pCPU
@@ -140,7 +141,7 @@ module _ {s s′ : System} {i p : ℕ} {v : VirtualCpu} where
           record { exists = omega arith; back = cc; admits = cc }
 
       held′ : (q d u : ℕ) → q < pcpus s′ → occupantAt s′ q ≡ Vcpu d u → Dec (q ≡ p) → Holds s′ q d u
-      held′ q d u l e (yes q≡p) = absurd (let z : _≡_ {A = ℕ} 0 1 = cc in omega arith)
+      held′ q d u l e (yes q≡p) = absurd (zero-one cc)
       held′ q d u l e (no q≢p) =
           let g = w .others q q≢p in
           let h = S .held q d u (omega arith) (sym g ∙ e) in

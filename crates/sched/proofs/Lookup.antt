@@ -6,6 +6,7 @@ use native.Mathlib.Nat.{min-eq-left}
 use native.Mathlib.Omega.{arith}
 use lib.Dec.{ltb}
 use borrow.Author.Tests.{ltb-true, lt-ltb}
+use Rattle.masks.specs.Conj.{zero-one}
 use Rattle.system.specs.declared.System.{System}
 use Rattle.system.specs.declared.Answer.the-variants.{BadDomain, BadVcpu}
 use Rattle.system.specs.Answers.{Outcome}
@@ -61,8 +62,8 @@ module _ (s : System) (hold : invariantsHold s ≡ true) where
             let y = ltb-true v _ f in
             let j : slot d v ≡ i = cc in
             record { present = record { domain = omega arith; vcpu = omega arith }; domain = omega arith; vcpu = omega arith }
-        go true false e f h = absurd (let z : _≡_ {A = ℕ} 0 1 = cc in omega arith)
-        go false b e f h = absurd (let z : _≡_ {A = ℕ} 0 1 = cc in omega arith)
+        go true false e f h = absurd (zero-one cc)
+        go false b e f h = absurd (zero-one cc)
 
     found-told : (k : ℕ → Outcome) → found s d v k ≡ toldOf s k (looked s d v)
     unfolding slotOf

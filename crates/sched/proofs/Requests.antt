@@ -2,8 +2,8 @@
 use Prim.Native.Nat.{ℕ, _/_, _%_, _<_}
 use mathlib.Core.Bool.{Bool, true, false, cond}
 use mathlib.Core.Path.{_≡_, refl, sym, subst}
-use native.Mathlib.Omega.{arith}
 use Rattle.masks.specs.Masks.{permits}
+use Rattle.masks.specs.Conj.{zero-one}
 use Rattle.system.specs.declared.RunState.{RunState}
 use Rattle.system.specs.declared.RunState.the-variants.{Offline, Runnable, Running, Blocked}
 use Rattle.system.specs.declared.VirtualCpu.{VirtualCpu}
@@ -20,13 +20,13 @@ use Rattle.sched.specs.Steps.{admitted, preempted, blocked, woken, maske
 use Rattle.sched.proofs.Legal.{NotRunning, StaysPut, Legal, stays, keeps, goes-on, comes-off}
 
 pub off-nr : NotRunning Offline
-off-nr q e = let z : _≡_ {A = ℕ} 0 1 = cc in omega arith
+off-nr q e = zero-one cc
 
 pub ready-nr : NotRunning Runnable
-ready-nr q e = let z : _≡_ {A = ℕ} 0 1 = cc in omega arith
+ready-nr q e = zero-one cc
 
 pub blocked-nr : NotRunning Blocked
-blocked-nr q e = let z : _≡_ {A = ℕ} 0 1 = cc in omega arith
+blocked-nr q e = zero-one cc
 
 -- a record that did not run and does not run stays put
 idle-put : (old new : VirtualCpu) → NotRunning (old .state) → NotRunning (new .state) → new .runtime ≡ old .runtime → StaysPut old new
