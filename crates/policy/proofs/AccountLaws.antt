@@ -1,5 +1,5 @@
 -- What accounting changes and what it keeps. Assumes nothing.
-use Prim.Native.Nat.{ℕ, zero, suc, _/_, _%_, _<_, min, max}
+use Prim.Native.Nat.{ℕ, zero, suc, _/_, _%_, _<_, min}
 use mathlib.Core.Bool.{Bool, true, false, cond, not, _&&_, false≢true}
 use mathlib.Core.Path.{_≡_, refl, sym, _∙_, ap, subst}
 use mathlib.Core.Logic.{_≢_, _⊎_, inl, inr}
@@ -17,8 +17,8 @@ use Rattle.system.specs.Reads.{slot}
 use Rattle.moves.specs.Scan.{nobody, at, scan-sound}
 use Rattle.policy.specs.declared.Account.{Account}
 use Rattle.policy.specs.declared.Scheduler.{Scheduler}
-use Rattle.policy.specs.Accounts.{blankAccount, plain, accountAt, covers, accountOf, weightOf, offsetOf, wasSchedulable}
-use Rattle.policy.specs.Accounts.{withAccounts, putAccount, setWeight, setWakeBoost, unboosted}
+use Rattle.policy.specs.Accounts.{raised, blankAccount, plain, accountAt, covers, accountOf, usedWeight, weightOf, offsetOf, wasSchedulable}
+use Rattle.policy.specs.Accounts.{withAccounts, putAccount, withWeight, setWeight, setWakeBoost, unboosted}
 use Rattle.policy.specs.Standing.{slots, present, deserves}
 use Rattle.policy.specs.Accounting.{pooled, floor, lifted, renewed, renewFirst, accounted}
 
@@ -196,8 +196,8 @@ module _ (s : System) (π : Scheduler) (L : Tabled π) (now : ℕ) where
   accounted-weight i = go (renewed-or-kept (slots s) i)
     where
       go : Either (slots s) i (upTo (slots s)) → weightOf (upTo (slots s)) (i / 8) (i % 8) ≡ weightOf π (i / 8) (i % 8)
-      go (inl h) = ap (λ (a : Account). max (a .weight) 1) (h .is)
-      go (inr e) = ap (λ (a : Account). max (a .weight) 1) e
+      go (inl h) = ap usedWeight (h .is)
+      go (inr e) = ap usedWeight e
 
   -- the snapshot of a vCPU in the policy's shape is whether it is in the pool
   pub accounted-snapshot : (i : ℕ) → i < slots s → present s i ≡ true → covers π (i / 8) (i % 8) ≡ true
@@ -259,7 +259,7 @@ setWeight-at π d v w e =
 pub record Weighed (π : Scheduler) (w i : ℕ) (ρ : Scheduler) : Type 0 where
   pub offset : offsetOf ρ (i / 8) (i % 8) ≡ offsetOf π (i / 8) (i % 8)
   pub snapshot : wasSchedulable ρ (i / 8) (i % 8) ≡ wasSchedulable π (i / 8) (i % 8)
-  pub weight : (weightOf ρ (i / 8) (i % 8) ≡ max (max w 1) 1) ⊎ (weightOf ρ (i / 8) (i % 8) ≡ weightOf π (i / 8) (i % 8))
+  pub weight : (weightOf ρ (i / 8) (i % 8) ≡ raised (raised w)) ⊎ (weightOf ρ (i / 8) (i % 8) ≡ weightOf π (i / 8) (i % 8))
 
 pub set-weighed : (π : Scheduler) → Tabled π → (d v w i : ℕ) → Weighed π w i (setWeight π d v w)
 unfolding setWeight putAccount
@@ -269,12 +269,7 @@ set-weighed π L d v w i = go (covers π d v) refl
     same = record { offset = refl; snapshot = refl; weight = inr refl }
 
     new : ℕ → Account
-    new j =
-        record {
-          weight = max w 1;
-          offset = (accountOf π (j / 8) (j % 8)) .offset;
-          «was_schedulable» = (accountOf π (j / 8) (j % 8)) .«was_schedulable»;
-        }
+    new j = withWeight (accountOf π (j / 8) (j % 8)) (raised w)
 
     by-slot : (j : ℕ) → covers π (j / 8) (j % 8) ≡ true → Dec (i ≡ j) → Weighed π w i (putAccount π (j / 8) (j % 8) (new j))
     by-slot j c (yes x) =
@@ -283,14 +278,14 @@ set-weighed π L d v w i = go (covers π d v) refl
         (record {
           offset = ap (λ (b : Account). value (b .offset)) e;
           snapshot = ap (λ (b : Account). b .«was_schedulable») e;
-          weight = inl (ap (λ (b : Account). max (b .weight) 1) e);
+          weight = inl (ap usedWeight e);
         })
     by-slot j c (no n) =
         let e = put-there π L j (new j) (i / 8) (i % 8) (λ y. n (omega arith)) in
         record {
           offset = ap (λ (b : Account). value (b .offset)) e;
           snapshot = ap (λ (b : Account). b .«was_schedulable») e;
-          weight = inr (ap (λ (b : Account). max (b .weight) 1) e);
+          weight = inr (ap usedWeight e);
         }
 
     go : (b : Bool) → covers π d v ≡ b → Weighed π w i (setWeight π d v w)

@@ -1,19 +1,18 @@
 -- A turn of `floor` is a step of its scan. Assumes nothing.
-use Prim.Native.Nat.{ℕ, suc, _+_, _/_, _%_}
+use Prim.Native.Nat.{ℕ, suc, _/_, _%_}
 use mathlib.Core.Bool.{Bool, true, false, cond, _&&_}
 use mathlib.Core.Path.{_≡_, refl, sym, _∙_, ap, subst}
 use mathlib.Core.List.{List}
 use Rattle.service.specs.Service.{value, held, moreDeserving}
 use Rattle.service.specs.Laws.{value-held}
 use Rattle.system.specs.declared.System.{System}
-use Rattle.system.specs.Records.{runtimeUntil}
 use Rattle.system.specs.Reads.{vcpuAt}
 use Rattle.moves.specs.Scan.{Pick, at, against, scan}
 use Rattle.policy.specs.declared.Account.{Account}
 use Rattle.policy.specs.declared.Standing.{Standing}
 use Rattle.policy.specs.declared.Scheduler.{Scheduler}
 use Rattle.policy.specs.Accounts.{accountOf, wasSchedulable}
-use Rattle.policy.specs.Standing.{present, weightAt, serviceAt, deserves}
+use Rattle.policy.specs.Standing.{present, weightAt, serviceOf, serviceAt, deserves}
 use Rattle.policy.specs.Accounting.{pooled}
 use Rattle.policy.specs.Loops.{undercuts, leader, Leads, none, one}
 
@@ -26,7 +25,7 @@ module _ (s : System) (π : Scheduler) (now i : ℕ) (best : Standing) where
   account = accountOf π (i / 8) (i % 8)
 
   abbrev service : List ℕ
-  service = held (runtimeUntil (vcpuAt s i) now + value (account .offset))
+  service = held (serviceOf (vcpuAt s i) account now)
 
   abbrev next : Standing
   next = record { found = true; service = service; weight = weightAt π i }

@@ -1,5 +1,5 @@
 -- What the policy keeps of each vCPU, and what is looked up, in its shape or outside it.
-use Prim.Native.Nat.{ℕ, min, max}
+use Prim.Native.Nat.{ℕ, _/_, _%_, min, max}
 use mathlib.Core.Bool.{Bool, true, false, cond, _&&_}
 use mathlib.Core.List.{List, [], _∷_, map}
 use lib.Dec.{ltb, leb}
@@ -11,11 +11,17 @@ use Rattle.policy.specs.declared.Account.{Account}
 use Rattle.policy.specs.declared.Scheduler.{Scheduler}
 use Rattle.policy.specs.declared.Adjusted.{Adjusted}
 
+-- the weight of a vCPU that none was set for, and of one outside the shape
 abbrev pub defaultWeight : ℕ
 defaultWeight = 1
 
+-- the least weight that is used
 abbrev pub leastWeight : ℕ
 leastWeight = 1
+
+-- a weight below the least is raised to it
+abbrev pub raised : ℕ → ℕ
+raised w = max w leastWeight
 
 abbrev pub noOffset : List ℕ
 noOffset = 0 ∷ 0 ∷ 0 ∷ 0 ∷ []
@@ -31,16 +37,26 @@ blankAccount = record { weight = 0; offset = noOffset; «was_schedulable» = fal
 unfoldable pub accountAt : Scheduler → ℕ → Account
 accountAt π i = getD (π .accounts) i blankAccount
 
--- d/v is in the policy's shape, and within the sizes
+-- d/v is within the counts, and within the sizes
+abbrev pub inShape : ℕ → ℕ → ℕ → ℕ → Bool
+inShape domains vcpus d v = ltb d (min domains 16) && ltb v (min vcpus 8)
+
 abbrev pub covers : Scheduler → ℕ → ℕ → Bool
-covers π d v = ltb d (min (π .«domain_count») 16) && ltb v (min (π .«vcpus_per_domain») 8)
+covers π d v = inShape (π .«domain_count») (π .«vcpus_per_domain») d v
 
 unfoldable pub accountOf : Scheduler → ℕ → ℕ → Account
 accountOf π d v = cond (covers π d v) (accountAt π (slot d v)) plain
 
+-- the account of slot i in that shape, where a is kept there
+abbrev pub lookedUp : ℕ → ℕ → ℕ → Account → Account
+lookedUp domains vcpus i a = cond (inShape domains vcpus (i / 8) (i % 8)) a plain
+
 -- a weight of 0 in a damaged policy reads as the least
+abbrev pub usedWeight : Account → ℕ
+usedWeight a = raised (a .weight)
+
 abbrev pub weightOf : Scheduler → ℕ → ℕ → ℕ
-weightOf π d v = max ((accountOf π d v) .weight) leastWeight
+weightOf π d v = usedWeight (accountOf π d v)
 
 abbrev pub offsetOf : Scheduler → ℕ → ℕ → ℕ
 offsetOf π d v = value ((accountOf π d v) .offset)
@@ -68,11 +84,12 @@ unfoldable pub freshPolicy : ℕ → ℕ → ℕ → Scheduler
 freshPolicy d v q =
     record { «domain_count» = d; «vcpus_per_domain» = v; accounts = replicate 128 plain; quantum = q; «wake_boost» = true }
 
--- a weight below the least is raised to it
+abbrev pub withWeight : Account → ℕ → Account
+withWeight a w = record { weight = w; offset = a .offset; «was_schedulable» = a .«was_schedulable» }
+
+-- what is set is at least the least
 unfoldable pub setWeight : Scheduler → ℕ → ℕ → ℕ → Scheduler
-setWeight π d v w =
-    let a = accountOf π d v in
-    putAccount π d v (record { weight = max w leastWeight; offset = a .offset; «was_schedulable» = a .«was_schedulable» })
+setWeight π d v w = putAccount π d v (withWeight (accountOf π d v) (raised w))
 
 abbrev pub unboosted : Account → Account
 unboosted a = record { weight = a .weight; offset = noOffset; «was_schedulable» = a .«was_schedulable» }

@@ -2,12 +2,10 @@
 //! snapshot of the pool; how these are set and looked up, and how an accounting renews them.
 
 ghost use mathlib.Core.Path.{_≡_};
-ghost use mathlib.Core.Bool.{cond, _&&_};
-ghost use Prim.Native.Nat.{_+_, _/_, _%_, min, max};
-ghost use lib.Dec.{ltb};
 ghost use Rattle.service.specs.Service.{value, held};
-ghost use Rattle.system.specs.Records.{runtimeUntil};
-ghost use Rattle.policy.specs.Accounts.{plain, weightOf, setWeight, setWakeBoost, freshPolicy, policyOutcome, builtPolicy};
+ghost use Rattle.policy.specs.Accounts.{raised, lookedUp, usedWeight, weightOf, setWeight, setWakeBoost};
+ghost use Rattle.policy.specs.Accounts.{freshPolicy, policyOutcome, builtPolicy};
+ghost use Rattle.policy.specs.Standing.{serviceOf};
 ghost use Rattle.policy.specs.Accounting.{schedulable, floor, accounted};
 ghost use Rattle.policy.specs.Loops.{undercuts, leader, Leads, liftedTo, renewedAt};
 use service::Service;
@@ -80,7 +78,7 @@ fn as_built(num_domains: usize, vcpus_per_domain: usize, quantum: Ticks) -> Sche
 
 /// The account looked up for slot `i`, where `stored` is the one kept there.
 pub fn looked_up(domain_count: usize, vcpus_per_domain: usize, i: usize, stored: Account) -> Account
-    ensures { λ r. ⌜ r ≡ cond (ltb (i / 8) (min «domain_count» 16) && ltb (i % 8) (min «vcpus_per_domain» 8)) stored plain ⌝ }
+    ensures { λ r. ⌜ r ≡ lookedUp «domain_count» «vcpus_per_domain» i stored ⌝ }
 {
     if i / 8 < least(domain_count, system::MAX_DOMAINS) {
         if i % 8 < vcpus_per_domain {
@@ -92,7 +90,7 @@ pub fn looked_up(domain_count: usize, vcpus_per_domain: usize, i: usize, stored:
 
 // A weight, at least the least.
 fn raised(weight: Weight) -> Weight
-    ensures { λ r. ⌜ r ≡ max weight 1 ⌝ }
+    ensures { λ r. ⌜ r ≡ raised weight ⌝ }
 {
     if weight < MIN_WEIGHT {
         MIN_WEIGHT
@@ -103,14 +101,14 @@ fn raised(weight: Weight) -> Weight
 
 /// The weight that is used: one of 0, in a damaged policy, reads as the least.
 pub fn used_weight(a: Account) -> Weight
-    ensures { λ r. ⌜ r ≡ max (a .weight) 1 ⌝ }
+    ensures { λ r. ⌜ r ≡ usedWeight a ⌝ }
 {
     raised(a.weight)
 }
 
 /// A vCPU's service: run time, the part in flight and the offset.
 pub fn service_of(v: VirtualCpu, a: Account, now: Ticks) -> Service
-    ensures { λ r. ⌜ r ≡ held (runtimeUntil v now + value (a .offset)) ⌝ }
+    ensures { λ r. ⌜ r ≡ held (serviceOf v a now) ⌝ }
 {
     let offset = a.offset;
     let closed = service::from_u64(v.runtime);

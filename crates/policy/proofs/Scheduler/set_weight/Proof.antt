@@ -1,12 +1,12 @@
 -- `policy::Scheduler::set_weight` meets its contract. Assumes nothing.
-use Prim.Native.Nat.{ℕ, _<_, max}
+use Prim.Native.Nat.{_<_}
 use mathlib.Core.Path.{ap}
 use native.Mathlib.Omega.{arith}
 use lib.ListN.{set, length-map}
 use borrow.Author.Needs.{needs}
 use Rattle.system.specs.Reads.{slot}
 use Rattle.policy.specs.declared.Account.{Account}
-use Rattle.policy.specs.Accounts.{accountOf, withAccounts, putAccount, setWeight}
+use Rattle.policy.specs.Accounts.{raised, accountOf, withAccounts, putAccount, withWeight, setWeight}
 use Rattle.policy.proofs.AccountLaws.{Tabled}
 use Rattle.system.proofs.Held.{below, beyond}
 use Rattle.policy.proofs.Stored.{stored}
@@ -15,10 +15,6 @@ use Rattle.policy.proofs.Scheduler.set_weight.Tie as tie
 
 tabled : (c : tie.Start) → Tabled (c .args .self)
 tabled c = record { accounts = rw length-map at (c .good .0 .1 .1 .1 .1 .0 .1 .0 .1) }
-
--- a with another weight
-abbrev weighed : ℕ → Account → Account
-weighed w a = record { weight = max w 1; offset = a .offset; «was_schedulable» = a .«was_schedulable» }
 
 inside : tie.Need-returns
 unfolding accountOf putAccount setWeight
@@ -30,7 +26,7 @@ inside c =
     let i = slot (s .args .dom) (s .args .vcpu) in
     let h : slot (s .args .dom) (s .args .vcpu) < 128 = omega arith in
     rw (below (d .before .least .ensures) (d .if1 .taken), below (v .before .least2 .ensures) (v .if2 .taken), c .raised .ensures)
-    (ap (λ (a : Account). withAccounts π (set (π .accounts) i (weighed (s .args .weight) a))) (stored π (tabled s) i h))
+    (ap (λ (a : Account). withAccounts π (set (π .accounts) i (withWeight a (raised (s .args .weight))))) (stored π (tabled s) i h))
 
 no-vcpu : tie.Need-returns-2
 unfolding putAccount setWeight

@@ -1,12 +1,11 @@
 -- `policy::Scheduler::weight_of` meets its contract. Assumes nothing.
-use Prim.Native.Nat.{_<_, max}
+use Prim.Native.Nat.{_<_}
 use mathlib.Core.Path.{_∙_, ap}
 use native.Mathlib.Omega.{arith}
 use lib.ListN.{length-map}
 use borrow.Author.Needs.{needs}
 use Rattle.system.specs.Reads.{slot}
-use Rattle.policy.specs.declared.Account.{Account}
-use Rattle.policy.specs.Accounts.{accountOf}
+use Rattle.policy.specs.Accounts.{accountOf, usedWeight}
 use Rattle.policy.proofs.AccountLaws.{Tabled}
 use Rattle.system.proofs.Held.{below, beyond}
 use Rattle.policy.proofs.Stored.{stored}
@@ -24,7 +23,7 @@ inside c =
     let s = d .before .before in
     let h : slot (s .args .dom) (s .args .vcpu) < 128 = omega arith in
     rw (below (d .before .least .ensures) (d .if1 .taken), below (v .before .least2 .ensures) (v .if2 .taken))
-    (c .used-weight .ensures ∙ ap (λ (a : Account). max (a .weight) 1) (stored (s .args .t1) (tabled s) _ h))
+    (c .used-weight .ensures ∙ ap usedWeight (stored (s .args .t1) (tabled s) _ h))
 
 no-vcpu : tie.Need-returns-2
 unfolding accountOf
