@@ -1,5 +1,5 @@
 -- `advance::tabulate` meets its contract: after i turns of the loop the rows below i are there. Assumes nothing.
-use Prim.Native.Nat.{_+_, _-_, _/_, _%_, _≤_, _<_, max, zero-le}
+use Prim.Native.Nat.{_+_, _-_, _/_, _%_, _≤_, _<_, zero-le}
 use mathlib.Core.Bool.{Bool}
 use mathlib.Core.Path.{_≡_, refl, _∙_, ap}
 use native.Mathlib.Omega.{arith}
@@ -9,7 +9,7 @@ use Rattle.service.specs.Service.{value, held}
 use Rattle.system.specs.Records.{inFlight}
 use Rattle.system.specs.Reads.{vcpuAt}
 use Rattle.policy.specs.declared.Account.{Account}
-use Rattle.policy.specs.Accounts.{accountOf}
+use Rattle.policy.specs.Accounts.{accountOf, usedWeight}
 use Rattle.policy.proofs.AccountLaws.{Tabled}
 use Rattle.policy.specs.Standing.{slots}
 use Rattle.policy.proofs.Stored.{looked}
@@ -80,7 +80,7 @@ loop-again c =
           (d .kind-of .ensures ∙ ap (λ (b : Bool). kindOf b (a .t2 .quantum) (a .now) (vcpuAt (a .t1) (l .loop .i))) (present-here (l .loop .i) _))
           refl
           (e .service-of .ensures ∙ ap (λ (y : Account). held (x .runtime + inFlight x (a .now) + value (y .offset))) (account k))
-          (c .used-weight .ensures ∙ ap (λ (y : Account). max (y .weight) 1) (account k))
+          (c .used-weight .ensures ∙ ap usedWeight (account k))
           (v .1),
       length-set (l .loop .kind) (l .loop .i) (d .kind-of .result) ∙ v .2,
       length-set (l .loop .mask) (l .loop .i) (x .affinity) ∙ v .3,

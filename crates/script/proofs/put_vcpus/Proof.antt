@@ -1,5 +1,5 @@
 -- `script::put_vcpus` meets its contract. Assumes nothing.
-use Prim.Native.Nat.{ℕ, _+_, _*_, _-_, _/_, _%_, _≤_, _<_, max, zero-le}
+use Prim.Native.Nat.{ℕ, _+_, _*_, _-_, _/_, _%_, _≤_, _<_, zero-le}
 use mathlib.Core.Path.{_≡_, refl, sym, _∙_, ap, subst}
 use mathlib.Core.Bool.{cond}
 use mathlib.Core.List.{List, _++_}
@@ -13,7 +13,7 @@ use Rattle.system.specs.declared.VirtualCpu.{VirtualCpu}
 use Rattle.system.specs.declared.System.{System}
 use Rattle.policy.specs.declared.Account.{Account}
 use Rattle.policy.specs.declared.Scheduler.{Scheduler}
-use Rattle.policy.specs.Accounts.{plain, covers}
+use Rattle.policy.specs.Accounts.{plain, covers, usedWeight}
 use Rattle.policy.proofs.Stored.{zeros, looked}
 use Rattle.script.specs.Rows.{slotRow, vcpuRow, vcpuRows}
 use Rattle.script.proofs.put_vcpus.Statement.{statement}
@@ -42,9 +42,9 @@ space c κs =
 
 -- what is written for slot i, from what was read there
 row : (s : System) (π : Scheduler) (i k w : ℕ) (v : VirtualCpu) (a : Account) → length (π .accounts) ≡ 128 → i < 128 → k ≡ vcpus s → v ≡ vcpuAt s i
-    → a ≡ cond (covers π (i / 8) (i % 8)) (getD (π .accounts) i zeros) plain → w ≡ max (a .weight) 1 → slotRow k i v w ≡ vcpuRow s π i
+    → a ≡ cond (covers π (i / 8) (i % 8)) (getD (π .accounts) i zeros) plain → w ≡ usedWeight a → slotRow k i v w ≡ vcpuRow s π i
 row s π i k w v a long h e f g m =
-    let weight = m ∙ ap (λ (b : Account). max (b .weight) 1) (g ∙ looked π (record { accounts = long }) i h) in
+    let weight = m ∙ ap usedWeight (g ∙ looked π (record { accounts = long }) i h) in
     ap (λ (n : ℕ). slotRow n i v w) e ∙ ap (λ (u : VirtualCpu). slotRow (vcpus s) i u w) f ∙ ap (slotRow (vcpus s) i (vcpuAt s i)) weight
 
 loop-again : tie.Need-loop-again Inv-loop μ-loop
