@@ -1,5 +1,5 @@
 -- From what is kept along a list to what demand 3 says of it. Assumes nothing.
-use Prim.Native.Nat.{ℕ, _+_, _-_, _*_, _/_, _%_, _≤_, _<_, max}
+use Prim.Native.Nat.{ℕ, _+_, _-_, _*_, _/_, _%_, _≤_, _<_}
 use mathlib.Core.Bool.{Bool, true, false, cond}
 use mathlib.Core.Path.{_≡_, refl, sym, _∙_, ap, ap₂, subst}
 use mathlib.Core.List.{List, [], _∷_, _++_}
@@ -25,7 +25,7 @@ use Rattle.sched.proofs.Fresh.{fresh-tables, fresh-vcpu, fresh-sound}
 use Rattle.moves.specs.Scan.{nobody}
 use Rattle.policy.specs.declared.Account.{Account}
 use Rattle.policy.specs.declared.Scheduler.{Scheduler}
-use Rattle.policy.specs.Accounts.{blankAccount, plain, covers, accountAt, accountOf, freshPolicy}
+use Rattle.policy.specs.Accounts.{blankAccount, plain, covers, accountAt, accountOf, usedWeight, freshPolicy}
 use Rattle.policy.specs.Accounting.{schedulable, accounted}
 use Rattle.policy.proofs.AccountLaws.{covers-below}
 use Rattle.sched.specs.Keeps.{runtimeAt}
@@ -103,7 +103,7 @@ module _ (d v p e u q : ℕ) (hd : d ≤ 16) (hv : v ≤ 8) (hp : p ≤ 64) wher
         plain =
             record {
               offsets = λ i. ap (λ (a : Account). value (a .offset)) (policy-at i);
-              weights = λ i. omega (arith, ap (λ (a : Account). max (a .weight) 1) (policy-at i));
+              weights = λ i. omega (arith, ap usedWeight (policy-at i));
             };
         tabled = record { accounts = length-replicate 128 plain };
         words = λ j. omega (arith, time-zero j);

@@ -1,5 +1,5 @@
 -- Along a pool list the lag is bounded at every point after the first advance. Assumes nothing.
-use Prim.Native.Nat.{ℕ, _+_, _-_, _/_, _%_, _^_, _≤_, _<_, max}
+use Prim.Native.Nat.{ℕ, _+_, _-_, _/_, _%_, _^_, _≤_, _<_}
 use mathlib.Core.Bool.{Bool, false}
 use mathlib.Core.Path.{_≡_, refl, sym, _∙_, ap, subst}
 use mathlib.Core.Logic.{_⊎_, inl, inr}
@@ -14,7 +14,7 @@ use Rattle.sched.proofs.Kept.{requested-keeps, offline-all-keeps}
 use Rattle.sched.specs.Keeps.{Keeps}
 use Rattle.policy.specs.declared.Account.{Account}
 use Rattle.policy.specs.declared.Scheduler.{Scheduler}
-use Rattle.policy.specs.Accounts.{wasSchedulable, accountOf, setWeight, setWakeBoost, unboosted}
+use Rattle.policy.specs.Accounts.{raised, wasSchedulable, accountOf, usedWeight, setWeight, setWakeBoost, unboosted}
 use Rattle.policy.specs.Standing.{weightAt}
 use Rattle.policy.proofs.AccountLaws.{Tabled, Weighed, set-weighed, set-weight-tabled, cleared, cleared-tabled}
 use Rattle.advance.proofs.LagMoves.{Plain}
@@ -93,7 +93,7 @@ prepare {h = h} K P f (lists.Prepares.weigh d v w) =
     look : (i : ℕ) → Weighed (h .scheduler) w i (setWeight (h .scheduler) d v w)
     look i = set-weighed (h .scheduler) (P .tabled) d v w i
 
-    weight : (i : ℕ) → (weightAt (setWeight (h .scheduler) d v w) i ≡ max (max w 1) 1) ⊎ (weightAt (setWeight (h .scheduler) d v w) i ≡ weightAt (h .scheduler) i)
+    weight : (i : ℕ) → (weightAt (setWeight (h .scheduler) d v w) i ≡ raised (raised w)) ⊎ (weightAt (setWeight (h .scheduler) d v w) i ≡ weightAt (h .scheduler) i)
         → weightAt (setWeight (h .scheduler) d v w) i < 2 ^ 32
     weight i (inl e) = omega (arith, f .2)
     weight i (inr e) = omega (arith, P .plain .weights i)
@@ -103,7 +103,7 @@ prepare {h = h} K P f (lists.Prepares.boost on) =
       plain =
           record {
             offsets = λ i. ap (λ (a : Account). value (a .offset)) (look i);
-            weights = λ i. omega (arith, ap (λ (a : Account). max (a .weight) 1) (look i), P .plain .weights i);
+            weights = λ i. omega (arith, ap usedWeight (look i), P .plain .weights i);
           };
       tabled = cleared-tabled (h .scheduler) (P .tabled) on;
       words = P .words;

@@ -1,5 +1,5 @@
 -- What each call of a pool list keeps: the lag is bounded up to g after the latest advance. Assumes nothing.
-use Prim.Native.Nat.{ℕ, _+_, _-_, _/_, _%_, _^_, _≤_, _<_, max}
+use Prim.Native.Nat.{ℕ, _+_, _-_, _/_, _%_, _^_, _≤_, _<_}
 use mathlib.Core.Bool.{Bool, true, false, false≢true}
 use mathlib.Core.Path.{_≡_, refl, sym, _∙_, ap, subst}
 use mathlib.Core.Logic.{_⊎_, inl, inr}
@@ -18,7 +18,7 @@ use Rattle.moves.specs.declared.Choice.the-variants.{Rest}
 use Rattle.moves.specs.Scan.{Pick, nobody, at}
 use Rattle.policy.specs.declared.Account.{Account}
 use Rattle.policy.specs.declared.Scheduler.{Scheduler}
-use Rattle.policy.specs.Accounts.{covers, accountOf, wasSchedulable, setWakeBoost, unboosted}
+use Rattle.policy.specs.Accounts.{covers, accountOf, usedWeight, wasSchedulable, setWakeBoost, unboosted}
 use Rattle.policy.specs.Standing.{slots, present, weightAt}
 use Rattle.advance.specs.Choices.{choice}
 use Rattle.policy.specs.Accounting.{schedulable, pooled, floor, accounted}
@@ -147,4 +147,4 @@ boosted {s} {π} on p =
     look i = cleared π on (i / 8) (i % 8)
 
     weight : (i : ℕ) → weightAt (setWakeBoost π on) i ≡ weightAt π i
-    weight i = ap (λ (a : Account). max (a .weight) 1) (look i)
+    weight i = ap usedWeight (look i)
