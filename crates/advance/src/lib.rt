@@ -75,6 +75,7 @@ fn kind_of(v: VirtualCpu, present: bool, quantum: Ticks, now: Ticks) -> u32
         RunState::Runnable => 1,
         RunState::Running { pcpu } => {
             if quantum <= system::elapsed(v, now) {
+                // % 64 keeps the sum in range without a precondition.
                 pcpu % 64 + 2
             } else {
                 0
@@ -178,6 +179,7 @@ fn record_after(c: Choice, v: VirtualCpu, now: Ticks) -> VirtualCpu
     }
 }
 
+// Who holds the pCPU of a choice after it. % 16 keeps the cast in range without a precondition.
 fn occupant_after(c: Choice) -> Occupant
     ensures { λ r. ⌜ r ≡ occupantAfter c ⌝ }
 {
@@ -270,7 +272,7 @@ fn settle(s: System, p: Scheduler, t: Table, now: Ticks) -> Settled
     Settled { system, count }
 }
 
-// A choice by the vCPU's ids.
+// A choice by the vCPU's ids. % 16 keeps the casts in range without a precondition.
 fn named(c: Choice) -> Decision
     ensures { λ r. ⌜ r ≡ namedAs c ⌝ }
 {

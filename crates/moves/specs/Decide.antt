@@ -18,7 +18,7 @@ pub record Standings : Type 0 where
   pub beats : ℕ → ℕ → Bool
   pub idle : ℕ → Bool
 
--- a test that any index passes and none is better by
+-- no index is better than another, so the first that passes is picked
 abbrev pub never : ℕ → ℕ → Bool
 never k j = Bool.false
 

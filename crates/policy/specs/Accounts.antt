@@ -30,7 +30,7 @@ noOffset = 0 ∷ 0 ∷ 0 ∷ 0 ∷ []
 abbrev pub plain : Account
 plain = record { weight = defaultWeight; offset = noOffset; «was_schedulable» = false }
 
--- the record of zeros
+-- the record of zeros: what a read past the end gives
 abbrev pub blankAccount : Account
 blankAccount = record { weight = 0; offset = noOffset; «was_schedulable» = false }
 

@@ -206,7 +206,7 @@ impl System {
         }
     }
 
-    /// The number of domains.
+    /// The number of domains; a damaged count is held at its size.
     pub fn domain_count(self) -> usize
         ensures { λ r. ⌜ r ≡ domains self ⌝ }
     {
@@ -224,7 +224,7 @@ impl System {
         }
     }
 
-    /// The number of pCPUs.
+    /// The number of pCPUs; a damaged count is held at its size.
     pub fn pcpu_count(self) -> usize
         ensures { λ r. ⌜ r ≡ pcpus self ⌝ }
     {

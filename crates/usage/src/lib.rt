@@ -9,7 +9,7 @@ use system::DomId;
 use system::System;
 use system::Ticks;
 
-// What is added up so far.
+// What is added up so far; a struct, since a call's result is not laid in a local that holds an array.
 struct Total {
     sum: [u32; 4],
 }
