@@ -1,6 +1,6 @@
 -- One list of each kind that meets all hypotheses of demand 3, with its moves and figures: the theorem is not empty.
 -- Assumes nothing.
-use Prim.Native.Nat.{ℕ, _+_, _-_, _*_, _≤_}
+use Prim.Native.Nat.{_+_, _-_, _*_, _≤_}
 use mathlib.Core.Path.{_≡_, refl, sym, _∙_}
 use mathlib.Core.List.{List, [], _∷_, _++_, map}
 use native.Mathlib.Omega.{arith}
@@ -27,7 +27,7 @@ use Rattle.host.specs.declared.Host.{Host}
 use Rattle.host.specs.declared.Call.{Call}
 use Rattle.host.specs.Step.{Step, step, after, freshHost}
 use Rattle.host.specs.Book.{Book, Shape, blank, holder, enter, movedAll}
-use Rattle.host.specs.Lists.{bookAfter, PoolList, PoolRest, latest, bookService}
+use Rattle.host.specs.Lists.{bookAfter, PoolList, latest, bookService}
 use Rattle.host.specs.Lists as lists
 use Rattle.host.specs.Demand3.{Demand-3}
 use Rattle.host.proofs.Demand3.{demand-3}

@@ -10,7 +10,7 @@ use Rattle.system.specs.declared.RunState.the-variants.{Offline, Runnable, Runn
 use Rattle.system.specs.declared.VirtualCpu.{VirtualCpu}
 use Rattle.system.specs.declared.Occupant.{Occupant}
 use Rattle.system.specs.declared.System.{System}
-use Rattle.system.specs.Reads.{domains, vcpus, pcpus, slot, vcpuAt, fullAffinity}
+use Rattle.system.specs.Reads.{domains, vcpus, slot, vcpuAt, fullAffinity}
 use Rattle.system.specs.Writes.{Tables, SameShape, shape-refl, shape-trans, Wrote, wrote-vcpu, wrote-both}
 use Rattle.verdict.specs.Sound.{Present, Sound}
 use Rattle.sched.specs.declared.Request.{Request}

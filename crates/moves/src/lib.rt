@@ -36,7 +36,7 @@ impl Leader {
 }
 
 // The lowest-numbered idle pCPU that the mask admits, or 64.
-fn placement(idle: u64, mask: u64) -> u32
+fn first_idle_pcpu_for(idle: u64, mask: u64) -> u32
     ensures { λ r. ⌜ r ≡ first (λ p. permits idle p && permits mask p) 64 ⌝ }
 {
     masks::lowest_pcpu(idle & mask)
@@ -79,7 +79,7 @@ fn yields_before(worst: Leader, next: Leader) -> bool
 }
 
 // The most deserving slot that waits and can be placed, with its placement.
-fn most_deserving<'a>(
+fn best_placement<'a>(
     kind: &'a [u32; 128],
     mask: &'a [u64; 128],
     service: &'a [u32; 512],
@@ -94,7 +94,7 @@ fn most_deserving<'a>(
     let mut i: usize = 0;
     while i < n {
         if kind[i] == 1 {
-            let pcpu = placement(idle, mask[i]);
+            let pcpu = first_idle_pcpu_for(idle, mask[i]);
             if pcpu < 64 {
                 let next = Leader {
                     found: true,
@@ -114,7 +114,7 @@ fn most_deserving<'a>(
 }
 
 // Whether some slot that waits, and whose mask admits the runner's pCPU, beats the runner.
-fn some_waiter_beats<'a>(
+fn some_affine_waiter_beats<'a>(
     kind: &'a [u32; 128],
     mask: &'a [u64; 128],
     service: &'a [u32; 512],
@@ -143,7 +143,7 @@ fn some_waiter_beats<'a>(
 
 // The least deserving hot slot that some waiter beats. Whether it would lead is tested first: that is
 // cheaper, and the answer is the same.
-fn least_deserving<'a>(
+fn best_preemption<'a>(
     kind: &'a [u32; 128],
     mask: &'a [u64; 128],
     service: &'a [u32; 512],
@@ -166,7 +166,7 @@ fn least_deserving<'a>(
                 weight: weight[i],
             };
             if yields_before(worst, next) {
-                if some_waiter_beats(kind, mask, service, weight, n, next) {
+                if some_affine_waiter_beats(kind, mask, service, weight, n, next) {
                     worst = next;
                 }
             }
@@ -199,7 +199,7 @@ pub fn decide<'a>(
 {
     let slots = within(n);
     if idle != 0 {
-        let best = most_deserving(kind, mask, service, weight, slots, idle);
+        let best = best_placement(kind, mask, service, weight, slots, idle);
         if best.found {
             return Choice::Run {
                 at: best.at,
@@ -207,7 +207,7 @@ pub fn decide<'a>(
             };
         }
     }
-    let worst = least_deserving(kind, mask, service, weight, slots);
+    let worst = best_preemption(kind, mask, service, weight, slots);
     if worst.found {
         Choice::Preempt {
             at: worst.at,

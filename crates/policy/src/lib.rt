@@ -314,8 +314,8 @@ impl Scheduler {
     }
 
     /// Boost on or off. All offsets are cleared.
-    pub fn set_wake_boost(self, on: bool) -> Scheduler
-        ensures { λ r. ⌜ r ≡ setWakeBoost self on ⌝ }
+    pub fn set_wake_boost(self, enabled: bool) -> Scheduler
+        ensures { λ r. ⌜ r ≡ setWakeBoost self enabled ⌝ }
     {
         let mut p = self;
         let mut i: usize = 0;
@@ -325,7 +325,7 @@ impl Scheduler {
             p.accounts[i] = a;
             i += 1;
         }
-        p.wake_boost = on;
+        p.wake_boost = enabled;
         p
     }
 }

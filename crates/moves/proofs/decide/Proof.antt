@@ -24,7 +24,7 @@ runs c =
     (a .idle)
     (s .within .result)
     _
-    (c .before .most-deserving .ensures)
+    (c .before .best-placement .ensures)
     (c .if2 .taken))
 
 -- nobody was placed, or no pCPU is idle
@@ -57,7 +57,7 @@ stops c =
     (s .within .result)
     (nobody-runs j)
     _
-    (c .before .least-deserving .ensures)
+    (c .before .best-preemption .ensures)
     (c .if3 .taken))
 
 rests : tie.Need-returns-3
@@ -76,7 +76,7 @@ rests c =
     (s .within .result)
     (nobody-runs j)
     _
-    (c .before .least-deserving .ensures)
+    (c .before .best-preemption .ensures)
     (c .if3 .left))
 
 pub decide-spec : {M : Type 1} → statement M

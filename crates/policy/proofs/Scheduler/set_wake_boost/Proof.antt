@@ -32,7 +32,7 @@ returns : tie.Need-returns Inv-loop μ-loop
 returns c =
     let l = c .before in
     let e : l .loop .i ≡ 128 = omega arith in
-    ended (l .before .args .self) (tabled (l .before)) (l .loop .p) (l .before .args .on)
+    ended (l .before .args .self) (tabled (l .before)) (l .loop .p) (l .before .args .enabled)
     (l .loop .inv .0 ∙ ap (clearedTo (l .before .args .self)) e)
 
 pub set-wake-boost-spec : {M : Type 1} → statement M

@@ -1,4 +1,4 @@
--- `moves::least_deserving` meets its contract. Assumes nothing.
+-- `moves::best_preemption` meets its contract. Assumes nothing.
 use Prim.Native.Nat.{_≤_, _-_, zero-le}
 use mathlib.Core.Path.{_≡_, refl, sym, _∙_}
 use mathlib.Core.Logic.{⊎-elim}
@@ -10,8 +10,8 @@ use Rattle.moves.specs.Decide.{victim}
 use Rattle.moves.specs.Table.{tabled}
 use Rattle.moves.specs.Loops.{none}
 use Rattle.moves.proofs.Victim.{Leading, skips, unbeaten, takes, stays}
-use Rattle.moves.proofs.least_deserving.Statement.{statement}
-use Rattle.moves.proofs.least_deserving.Tie as tie
+use Rattle.moves.proofs.best_preemption.Statement.{statement}
+use Rattle.moves.proofs.best_preemption.Tie as tie
 
 abbrev Inv-loop : tie.InvT-loop
 Inv-loop kind mask service weight n worst₀ i₀ worst i = (i ≤ n) × Leading kind mask service weight n i worst
@@ -23,7 +23,7 @@ loop-holds : tie.Need-loop-holds Inv-loop μ-loop
 unfolding scan
 loop-holds c = (zero-le, none refl refl)
 
-runner-held : tie.Need-some-waiter-beats-requires Inv-loop μ-loop
+runner-held : tie.Need-some-affine-waiter-beats-requires Inv-loop μ-loop
 unfolding tabled
 runner-held c κs = search needs
 
@@ -66,8 +66,8 @@ returns c =
     let e : l .loop .i ≡ l .before .args .n = omega arith in
     rw e at (l .loop .inv .1)
 
-pub least-deserving-spec : {M : Type 1} → statement M
-least-deserving-spec =
+pub best-preemption-spec : {M : Type 1} → statement M
+best-preemption-spec =
     tie.close
     (tie.spec
     Inv-loop

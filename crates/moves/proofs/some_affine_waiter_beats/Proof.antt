@@ -1,4 +1,4 @@
--- `moves::some_waiter_beats` meets its contract. Assumes nothing.
+-- `moves::some_affine_waiter_beats` meets its contract. Assumes nothing.
 use Prim.Native.Nat.{_≤_, _-_, zero-le}
 use mathlib.Core.Path.{_≡_, refl, sym, _∙_}
 use mathlib.Core.Bool.{false}
@@ -12,8 +12,8 @@ use Rattle.moves.specs.Decide.{beaten}
 use Rattle.moves.specs.DecideLaws.{by-beaten}
 use Rattle.moves.specs.Table.{tabled}
 use Rattle.moves.proofs.Beaten.{unbeaten, admits-same, beats-same}
-use Rattle.moves.proofs.some_waiter_beats.Statement.{statement}
-use Rattle.moves.proofs.some_waiter_beats.Tie as tie
+use Rattle.moves.proofs.some_affine_waiter_beats.Statement.{statement}
+use Rattle.moves.proofs.some_affine_waiter_beats.Tie as tie
 
 abbrev Inv-loop : tie.InvT-loop
 Inv-loop kind mask service weight n runner s i₀ i = (i ≤ n) × (beaten (tabled kind mask service weight 0) i (runner .at) ≡ false)
@@ -87,8 +87,8 @@ none-found c =
     let e : l .loop .i ≡ l .before .before .args .n = omega arith in
     rw (← e) (sym (l .loop .inv .1))
 
-pub some-waiter-beats-spec : {M : Type 1} → statement M
-some-waiter-beats-spec =
+pub some-affine-waiter-beats-spec : {M : Type 1} → statement M
+some-affine-waiter-beats-spec =
     tie.close
     (tie.spec
     Inv-loop

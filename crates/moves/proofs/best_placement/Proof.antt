@@ -1,4 +1,4 @@
--- `moves::most_deserving` meets its contract. Assumes nothing.
+-- `moves::best_placement` meets its contract. Assumes nothing.
 use Prim.Native.Nat.{_≤_, _-_, zero-le}
 use mathlib.Core.Path.{_≡_, refl, sym, _∙_}
 use mathlib.Core.Logic.{⊎-elim}
@@ -10,8 +10,8 @@ use Rattle.moves.specs.Decide.{placement, chosen}
 use Rattle.moves.specs.Table.{tabled}
 use Rattle.moves.specs.Loops.{LeadsChosen, none}
 use Rattle.moves.proofs.Chosen.{skips, unplaced, takes, stays}
-use Rattle.moves.proofs.most_deserving.Statement.{statement}
-use Rattle.moves.proofs.most_deserving.Tie as tie
+use Rattle.moves.proofs.best_placement.Statement.{statement}
+use Rattle.moves.proofs.best_placement.Tie as tie
 
 abbrev Inv-loop : tie.InvT-loop
 Inv-loop kind mask service weight n idle best₀ i₀ best i = (i ≤ n) × LeadsChosen kind mask service weight idle i best
@@ -61,8 +61,8 @@ returns c =
     let e : l .loop .i ≡ l .before .args .n = omega arith in
     rw e at (l .loop .inv .1)
 
-pub most-deserving-spec : {M : Type 1} → statement M
-most-deserving-spec =
+pub best-placement-spec : {M : Type 1} → statement M
+best-placement-spec =
     tie.close
     (tie.spec
     Inv-loop
