@@ -1,0 +1,265 @@
+//! Reads records on standard input and writes what each is told and, once there is a host, all that
+//! can be read of it at the record's own ids, with its value for a clock. Kinds 0 to 10 are those of a
+//! script; 11 takes a domain offline, and 12 builds a host whose policy has a shape of its own.
+
+ghost use mathlib.Core.Path.{_≡_};
+ghost use mathlib.Core.Bool.{true, _||_};
+ghost use Prim.Native.Nat.{_+_, _^_, _≤_, _<_};
+ghost use lib.Dec.{eqb};
+ghost use lib.ListN.{length};
+ghost use Rattle.system.specs.Shape.{fits};
+ghost use Rattle.host.specs.Handed.{handed};
+ghost use Rattle.records.specs.Records.{number, recordOf};
+ghost use Rattle.script.specs.Script.{carried};
+ghost use Rattle.text.specs.Lines.{answerLine};
+ghost use Rattle.text.specs.Places.{Placed};
+ghost use Rattle.examine.specs.Examine.{recordAt, queryOf, refused, made, apart, planned, answered, hostShown, Examined};
+use host::Call;
+use host::Host;
+use host::Outcome;
+use policy::Scheduler;
+use reads::Query;
+use records::Plan;
+use records::Record;
+use script::Script;
+use system::Answer;
+use system::DomId;
+use system::System;
+use system::Ticks;
+use system::Vcpu;
+
+// A script under way, and the bytes written for its last record.
+struct Written {
+    script: Script,
+    written: usize,
+}
+
+// ---- a record
+
+// The number of n bytes from index `at` on, the most significant first.
+fn field(bytes: &[u8], at: usize, n: usize) -> u64
+    requires { ⌜ at + n ≤ length (now bytes) ⌝ }
+    requires { ⌜ n ≤ 8 ⌝ }
+    ensures { λ r. ⌜ r ≡ number (now (bytes .entry)) at n ⌝ }
+    ensures { λ r. ⌜ r < 256 ^ n ⌝ }
+{
+    let mut sum: u64 = 0;
+    let mut i: usize = 0;
+    while i < n {
+        sum = sum * 256 + bytes[at + i] as u64;
+        i += 1;
+    }
+    sum
+}
+
+fn record_of(bytes: &[u8]) -> Record
+    requires { ⌜ 20 ≤ length (now bytes) ⌝ }
+    ensures { λ r. ⌜ r ≡ recordOf (now (bytes .entry)) ⌝ }
+{
+    let kind = field(bytes, 0, 2) as u16;
+    let dom = field(bytes, 2, 2) as u16;
+    let vcpu = field(bytes, 4, 4) as u32;
+    let third = field(bytes, 8, 4) as u32;
+    let value = field(bytes, 12, 8);
+    Record {
+        kind,
+        dom,
+        vcpu,
+        third,
+        value,
+    }
+}
+
+// A record that was cut off is of no kind.
+fn record_at(bytes: &[u8]) -> Record
+    ensures { λ r. ⌜ r ≡ recordAt (now (bytes .entry)) ⌝ }
+{
+    if bytes.len() < records::RECORD {
+        return Record {
+            kind: u16::MAX,
+            dom: 0,
+            vcpu: 0,
+            third: 0,
+            value: 0,
+        };
+    }
+    record_of(bytes)
+}
+
+fn query_of(r: Record) -> Query
+    ensures { λ q. ⌜ q ≡ queryOf r ⌝ }
+{
+    Query {
+        dom: r.dom,
+        vcpu: r.vcpu,
+        pcpu: r.third,
+        clock: r.value,
+    }
+}
+
+// ---- what it is told
+
+// A refusal leaves the host as it is.
+fn refused(h: Host, answer: Answer) -> Outcome
+    ensures { λ x. ⌜ handed x ≡ refused h answer ⌝ }
+{
+    Outcome {
+        answer,
+        host: h,
+        count: 0,
+    }
+}
+
+fn built_apart(d: usize, v: usize, p: usize, e: usize, u: usize, slice: Ticks) -> Outcome
+    requires { ⌜ fits d v p ≡ true ⌝ }
+    requires { ⌜ fits e u 0 ≡ true ⌝ }
+    ensures { λ x. ⌜ handed x ≡ made d v p e u slice ⌝ }
+{
+    let s = System::new(d, v, p);
+    let q = Scheduler::new(e, u, slice);
+    let system = s.system;
+    let scheduler = q.policy;
+    Outcome {
+        answer: Answer::Done,
+        host: Host { system, scheduler },
+        count: 0,
+    }
+}
+
+// The policy's domains are the value's first byte, its vCPUs the second, the slice the other six.
+fn apart(h: Host, dom: DomId, vcpu: Vcpu, pcpus: u32, value: u64) -> Outcome
+    ensures { λ x. ⌜ handed x ≡ apart h dom vcpu pcpus value ⌝ }
+{
+    let d = dom as usize;
+    let v = vcpu as usize;
+    let p = pcpus as usize;
+    let e = (value / 0x100_0000_0000_0000) as usize;
+    let u = (value / 0x1_0000_0000_0000 % 0x100) as usize;
+    if !system::within_sizes(d, v, p) {
+        return refused(h, Answer::TooLarge);
+    }
+    if !system::within_sizes(e, u, 0) {
+        return refused(h, Answer::TooLarge);
+    }
+    built_apart(d, v, p, e, u, value % 0x1_0000_0000_0000)
+}
+
+fn by_plan(h: Host, plan: Plan) -> Outcome
+    ensures { λ x. ⌜ handed x ≡ carried h plan ⌝ }
+{
+    match plan {
+        Plan::Refuse(answer) => refused(h, answer),
+        Plan::Build(shape) => Host::new(
+            shape.num_domains,
+            shape.vcpus_per_domain,
+            shape.num_pcpus,
+            shape.quantum,
+        ),
+        Plan::Call(call) => host::step(h, call),
+    }
+}
+
+// A script's plan, but that kind 11 takes a domain offline.
+fn plan_of(built: bool, bytes: &[u8], r: Record) -> Plan
+    ensures { λ x. ⌜ x ≡ planned built (now (bytes .entry)) r ⌝ }
+{
+    if r.kind == 11 {
+        if built {
+            return Plan::Call(Call::OfflineAll {
+                dom: r.dom,
+                now: r.value,
+            });
+        }
+        return Plan::Refuse(Answer::BadScript);
+    }
+    records::plan_of(built, bytes)
+}
+
+fn answered(h: Host, built: bool, bytes: &[u8], r: Record) -> Outcome
+    ensures { λ x. ⌜ handed x ≡ answered h built (now (bytes .entry)) r ⌝ }
+{
+    if r.kind == 12 {
+        return apart(h, r.dom, r.vcpu, r.third, r.value);
+    }
+    by_plan(h, plan_of(built, bytes, r))
+}
+
+// There is a host from the first record on that is told 0.
+fn is_built(built: bool, told: u64) -> bool
+    ensures { λ r. ⌜ r ≡ eqb told 0 || built ⌝ }
+{
+    if told == 0 { true } else { built }
+}
+
+// ---- what is written of it
+
+fn put_answer(out: &mut [u8], number: u64, told: u64, moves: usize) -> usize
+    requires { ⌜ 63 ≤ length (now out) ⌝ }
+    ensures { λ r. ⌜ Placed (now (out .entry)) 0 (answerLine number told moves) (now (out .exit)) r ⌝ }
+    ensures { λ r. ⌜ r ≤ 63 ⌝ }
+{
+    let line = text::answer_line(number, told, moves as u64);
+    text::append(out, 0, line)
+}
+
+fn put_host(out: &mut [u8], at: usize, built: bool, h: Host, r: Record) -> usize
+    requires { ⌜ at + 676 ≤ length (now out) ⌝ }
+    ensures { λ x. ⌜ Placed (now (out .entry)) at (hostShown built h r) (now (out .exit)) x ⌝ }
+{
+    if built {
+        reads::reads(out, at, h, query_of(r))
+    } else {
+        at
+    }
+}
+
+fn examined(s: Script, bytes: &[u8], out: &mut [u8]) -> Written
+    requires { ⌜ 739 ≤ length (now out) ⌝ }
+    ensures { λ w. ⌜ Examined s (now (bytes .entry)) (now (out .entry)) w (now (out .exit)) ⌝ }
+{
+    let r = record_at(bytes);
+    let before = s.host;
+    let x = answered(before, s.built, bytes, r);
+    let host = x.host;
+    let answer = x.answer;
+    let told = reads::number_of(answer);
+    let built = is_built(s.built, told);
+    let number = std::num::wrapping_add_u64(s.number, 1);
+    let line = put_answer(out, number, told, x.count);
+    let written = put_host(out, line, built, host, r);
+    Written {
+        script: Script {
+            number,
+            built,
+            host,
+        },
+        written,
+    }
+}
+
+// ---- the program
+
+fn turn(s: Script, record: &[u8], output: &mut [u8]) -> Script
+    requires { ⌜ 739 ≤ length (now output) ⌝ }
+{
+    let w = examined(s, record, output);
+    let written = w.written;
+    io::write_all(libc::STDOUT_FILENO, &output[..written]);
+    w.script
+}
+
+fn main() {
+    let mut input = [0u8; 20];
+    let mut output = [0u8; 739];
+    let mut s = Script::new();
+    // a proved loop has to end, and nothing says that the input does
+    let mut turns = u64::MAX;
+    while turns > 0 {
+        let got = io::read_full(libc::STDIN_FILENO, &mut input);
+        if got == 0 {
+            return;
+        }
+        s = turn(s, &input[..got], &mut output);
+        turns -= 1;
+    }
+}
