@@ -1,4 +1,5 @@
 //! Random scripts. The generator keeps upstream's host beside it, so that most calls fit the state they meet.
+use crate::examine::{examine, BUILD_APART, OFFLINE_ALL};
 use crate::sched::RunState;
 use crate::script::{Host, Record, Replay, RECORD, SIZES};
 
@@ -84,17 +85,29 @@ impl Generator {
         Generator { rng, small, replay: Replay::default(), style, clock: 0, age: 0, ahead: Vec::new(), overflows: 0 }
     }
 
-    /// The next record. One at which upstream's own sum overflows is left out: a build takes its place.
+    /// The next record.
     pub fn record(&mut self) -> [u8; RECORD] {
-        let bytes = self.propose().bytes();
-        if self.replay.tell(&bytes).is_some() {
+        let record = self.propose();
+        self.settled(record, |replay, bytes| replay.tell(bytes).is_some())
+    }
+
+    /// The next record for `examine`, whose ids are read whatever its kind.
+    pub fn examined(&mut self) -> [u8; RECORD] {
+        let record = self.propose_examined();
+        self.settled(record, |replay, bytes| examine(replay, bytes).is_some())
+    }
+
+    /// A record at which upstream's own sum overflows is left out: a build takes its place.
+    fn settled(&mut self, record: Record, tell: fn(&mut Replay, &[u8]) -> bool) -> [u8; RECORD] {
+        let bytes = record.bytes();
+        if tell(&mut self.replay, &bytes) {
             self.age += 1;
             return bytes;
         }
         self.overflows += 1;
         self.ahead.clear();
         let bytes = Record { kind: 0, domain: 1, vcpu: 2, third: 1, value: 10 }.bytes();
-        self.replay.tell(&bytes);
+        tell(&mut self.replay, &bytes);
         bytes
     }
 
@@ -104,14 +117,64 @@ impl Generator {
     }
 
     fn propose(&mut self) -> Record {
-        let record = match &self.replay.host {
+        let record = self.draw();
+        let other = if self.style.noise { self.noise() } else { Record::default() };
+        record.filled(other)
+    }
+
+    fn propose_examined(&mut self) -> Record {
+        let built = self.replay.host.is_some();
+        if self.rng.one_in(if built { 300 } else { 3 }) {
+            return self.build_apart();
+        }
+        let asked = self.asked();
+        if self.rng.one_in(40) {
+            return Record { kind: OFFLINE_ALL, value: self.tick(), ..asked };
+        }
+        // what is no kind of a script can be one here
+        match self.draw() {
+            record if record.kind == BUILD_APART => self.build_apart(),
+            record => record.filled(asked),
+        }
+    }
+
+    fn draw(&mut self) -> Record {
+        match &self.replay.host {
             None if !self.rng.one_in(4) => self.build(),
             Some(_) if self.rng.one_in(300) => self.build(),
             _ if self.rng.one_in(150) => self.bad_kind(),
             _ => self.call(),
+        }
+    }
+
+    /// Ids to read at, and a clock at hand: in range for the most part.
+    fn asked(&mut self) -> Record {
+        if self.style.noise && self.rng.one_in(3) {
+            return self.noise();
+        }
+        let (domain, vcpu) = self.target(7);
+        let third = self.pcpu(domain, vcpu);
+        let (later, jump) = (self.clock.saturating_add(self.rng.below(40)), self.jump());
+        let value = self.rng.pick(&[self.clock, later, later, later, jump]);
+        Record { kind: 0, domain, vcpu, third, value }
+    }
+
+    /// A host whose policy has a shape of its own, now and then one that is too large.
+    fn build_apart(&mut self) -> Record {
+        let build = self.build();
+        let of = [u64::from(build.domain), u64::from(build.vcpu)];
+        let [domains, vcpus] = [0, 1].map(|i| {
+            let (any, size) = (self.rng.below(SIZES[i] + 1), SIZES[i]);
+            let one_less = of[i].saturating_sub(1);
+            self.rng.pick(&[0, 1, one_less, one_less, of[i], of[i] + 1, any, any, size, size]).min(size)
+        });
+        // a refused build keeps the host, and no climb is made on any host
+        let (domains, vcpus) = match self.rng.below(16) {
+            0 if !self.style.climbs => (self.rng.pick(&[17, 255]), vcpus),
+            1 if !self.style.climbs => (domains, self.rng.pick(&[9, 255])),
+            _ => (domains, vcpus),
         };
-        let other = if self.style.noise { self.noise() } else { Record::default() };
-        record.filled(other)
+        Record { kind: BUILD_APART, value: domains << 56 | vcpus << 48 | build.value & ((1 << 48) - 1), ..build }
     }
 
     fn build(&mut self) -> Record {
@@ -345,10 +408,21 @@ pub fn script(seed: u64, calls: usize, small: bool) -> Vec<u8> {
 
 /// The same, but ended once its hosts have cost so much; with the number of overflows that it steps around.
 pub fn bounded(seed: u64, calls: usize, small: bool, budget: u64) -> (Vec<u8>, u64) {
+    drawn(seed, calls, small, budget, Generator::record)
+}
+
+/// Records for `examine`, in the same way.
+pub fn examined(seed: u64, calls: usize, small: bool, budget: u64) -> (Vec<u8>, u64) {
+    drawn(seed, calls, small, budget, Generator::examined)
+}
+
+type Next = fn(&mut Generator) -> [u8; RECORD];
+
+fn drawn(seed: u64, calls: usize, small: bool, budget: u64, next: Next) -> (Vec<u8>, u64) {
     let mut generator = Generator::new(seed, small);
     let (mut script, mut spent) = (Vec::new(), 0);
     while script.len() < calls * RECORD && spent < budget {
-        script.extend_from_slice(&generator.record());
+        script.extend_from_slice(&next(&mut generator));
         spent += generator.cost();
     }
     if generator.rng.one_in(4) {

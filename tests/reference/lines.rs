@@ -44,7 +44,7 @@ fn record(host: &Host, domain: u16, vcpu: u32) -> [u64; 8] {
     ]
 }
 
-fn numbers(out: &mut Vec<u8>, ns: &[u64]) {
+pub fn numbers(out: &mut Vec<u8>, ns: &[u64]) {
     for (i, n) in ns.iter().enumerate() {
         if i > 0 {
             out.push(b' ');

@@ -2,17 +2,24 @@
 //!
 //!   reference replay               records from standard input, a line for each
 //!   reference trace                the same, and the host after each
-//!   reference generate SEED CALLS [small]
-//!                                  a random script; with `small`, on hosts of a few vCPUs
+//!   reference examine              records of `examine`, and every read after each
+//!   reference generate SEED CALLS [small | examined]
+//!                                  a random script; with `small`, on hosts of a few vCPUs; with `examined`,
+//!                                  records of `examine` on such hosts
 //!   reference compare SEED CALLS SECONDS TRACE REPLAY FOLDER
 //!                                  random scripts through upstream and the two programs; a difference is
 //!                                  left in FOLDER, as `records` and upstream's `lines`
+//!   reference reads SEED RECORDS SECONDS EXAMINE FOLDER
+//!                                  random records of `examine` through upstream and the program
+//!   reference reached              whether the records of standard input reach every outcome of every read
 extern crate alloc;
 mod compare;
+mod examine;
 mod generate;
 mod lines;
 mod policy;
 mod program;
+mod reads;
 mod sched;
 mod script;
 mod shrink;
@@ -29,14 +36,27 @@ fn main() -> ExitCode {
     match args[..] {
         ["replay"] => replay(false),
         ["trace"] => replay(true),
-        ["generate", seed, calls] => generate(seed, calls, false),
-        ["generate", seed, calls, "small"] => generate(seed, calls, true),
+        ["examine"] => examine(),
+        ["generate", seed, calls] => print(&generate::script(number(seed), number(calls) as usize, false)),
+        ["generate", seed, calls, "small"] => print(&generate::script(number(seed), number(calls) as usize, true)),
+        ["generate", seed, calls, "examined"] => {
+            print(&generate::examined(number(seed), number(calls) as usize, true, u64::MAX).0)
+        }
         ["compare", seed, calls, seconds, trace, replay, folder] => {
             compare::compare(number(seed), number(calls), number(seconds), [trace, replay], folder)
         }
+        ["reads", seed, records, seconds, program, folder] => {
+            reads::compare(number(seed), number(records), number(seconds), program, folder)
+        }
+        ["reached"] => {
+            let mut script = Vec::new();
+            std::io::stdin().read_to_end(&mut script).unwrap();
+            reads::reached(&script)
+        }
         _ => {
-            eprintln!("usage: reference replay | trace | generate SEED CALLS [small]");
+            eprintln!("usage: reference replay | trace | examine | reached | generate SEED CALLS [small | examined]");
             eprintln!("       reference compare SEED CALLS SECONDS TRACE REPLAY FOLDER");
+            eprintln!("       reference reads SEED RECORDS SECONDS EXAMINE FOLDER");
             ExitCode::from(2)
         }
     }
@@ -46,16 +66,36 @@ fn number(word: &str) -> u64 {
     word.parse().unwrap_or_else(|_| panic!("not a number: {word}"))
 }
 
-fn generate(seed: &str, calls: &str, small: bool) -> ExitCode {
-    let script = generate::script(number(seed), number(calls) as usize, small);
-    std::io::stdout().write_all(&script).unwrap();
+fn print(script: &[u8]) -> ExitCode {
+    std::io::stdout().write_all(script).unwrap();
     ExitCode::SUCCESS
 }
 
 fn replay(states: bool) -> ExitCode {
+    let mut replay = Replay::default();
+    answer_all(|out, count, record| {
+        let told = replay.tell(record)?;
+        lines::answer(out, count, told);
+        if let (true, Some(host)) = (states, &replay.host) {
+            lines::host(out, host);
+        }
+        Some(())
+    })
+}
+
+fn examine() -> ExitCode {
+    let mut replay = Replay::default();
+    answer_all(|out, count, record| {
+        let answered = examine::examine(&mut replay, record)?;
+        examine::write(out, count, &answered);
+        Some(())
+    })
+}
+
+/// Writes what `answer` puts out for each record of standard input; `None` is an overflow of upstream's.
+fn answer_all(mut answer: impl FnMut(&mut Vec<u8>, u64, &[u8]) -> Option<()>) -> ExitCode {
     let mut input = BufReader::with_capacity(1 << 16, std::io::stdin().lock());
     let mut output = std::io::stdout().lock();
-    let mut replay = Replay::default();
     let mut out = Vec::with_capacity(1 << 17);
     let mut record = [0; RECORD];
     for count in 1.. {
@@ -63,14 +103,10 @@ fn replay(states: bool) -> ExitCode {
         if length == 0 {
             break;
         }
-        let Some(told) = replay.tell(&record[..length]) else {
+        if answer(&mut out, count, &record[..length]).is_none() {
             output.write_all(&out).unwrap();
             eprintln!("record {count}: upstream's sum of a service overflows");
             return ExitCode::from(3);
-        };
-        lines::answer(&mut out, count, told);
-        if let (true, Some(host)) = (states, &replay.host) {
-            lines::host(&mut out, host);
         }
         if out.len() >= 1 << 16 {
             output.write_all(&out).unwrap();

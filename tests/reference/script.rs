@@ -136,7 +136,7 @@ impl Host {
 }
 
 /// What every call but an advance is told: no moves.
-fn told(answer: u8) -> Told {
+pub fn told(answer: u8) -> Told {
     Told { answer, moves: 0 }
 }
 
@@ -156,14 +156,19 @@ const OVERFLOW: &str = "attempt to add with overflow";
 
 fn advance(host: &mut Host, now: u64) -> Option<u32> {
     let Host { system, policy } = host;
-    match catch_unwind(AssertUnwindSafe(|| policy.advance(system, now))) {
-        Ok(moves) => Some(moves),
+    unless_overflow(|| policy.advance(system, now))
+}
+
+/// `None` where upstream's own sum of a service overflows on the way.
+pub fn unless_overflow<T>(answer: impl FnOnce() -> T) -> Option<T> {
+    match catch_unwind(AssertUnwindSafe(answer)) {
+        Ok(answer) => Some(answer),
         Err(cause) if cause.downcast_ref::<&str>() == Some(&OVERFLOW) => None,
         Err(cause) => resume_unwind(cause),
     }
 }
 
-/// An overflow is answered by `tell`, so it needs no message of its own.
+/// An overflow is answered by `None`, so it needs no message of its own.
 pub fn quiet_overflows() {
     let loud = std::panic::take_hook();
     std::panic::set_hook(Box::new(move |info| {
