@@ -6,18 +6,7 @@ use system::Answer;
 use system::System;
 
 fn one_if_done(answer: Answer) -> u64 {
-    match answer {
-        Answer::Done => 1,
-        Answer::BadDomain => 0,
-        Answer::BadVcpu => 0,
-        Answer::BadPcpu => 0,
-        Answer::WrongState => 0,
-        Answer::PcpuBusy => 0,
-        Answer::NotAffine => 0,
-        Answer::TooLarge => 0,
-        Answer::Unsound => 0,
-        Answer::BadScript => 0,
-    }
+    if system::number_of(answer) == 0 { 1 } else { 0 }
 }
 
 // 16 domains of 8 vCPUs on 64 pCPUs: all admitted, the first 64 running.

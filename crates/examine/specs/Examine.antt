@@ -3,7 +3,7 @@ use Prim.Native.Nat.{ℕ, _+_, _/_, _%_, _^_, _≤_}
 use mathlib.Core.Bool.{Bool, cond, _&&_, _||_}
 use mathlib.Core.Path.{_≡_}
 use mathlib.Core.List.{List, [], _++_}
-use lib.Dec.{leb, eqb}
+use lib.Dec.{eqb}
 use lib.ListN.{length}
 use Rattle.system.specs.declared.Answer.{Answer}
 use Rattle.system.specs.declared.Answer.the-variants.{Done, TooLarge}
@@ -16,7 +16,7 @@ use Rattle.host.specs.Handed.{Handed}
 use Rattle.records.specs.declared.Record.{Record}
 use Rattle.records.specs.declared.MaybeCall.{MaybeCall}
 use Rattle.records.specs.declared.Plan.{Plan}
-use Rattle.records.specs.Records.{recordOf, afterBuild, planOf}
+use Rattle.records.specs.Records.{recordAt, afterBuild, planOf}
 use Rattle.reads.specs.declared.Query.{Query}
 use Rattle.reads.specs.Reads.{readsText}
 use Rattle.script.specs.declared.Script.{Script}
@@ -24,13 +24,6 @@ use Rattle.script.specs.Script.{carried}
 use Rattle.text.specs.Lines.{answerLine}
 use Rattle.text.specs.Places.{Placed}
 use Rattle.examine.specs.declared.Written.{Written}
-
--- a record that was cut off is of no kind
-abbrev pub cutOff : Record
-cutOff = record { kind = 65535; dom = 0; vcpu = 0; third = 0; value = 0 }
-
-unfoldable pub recordAt : List ℕ → Record
-recordAt bs = cond (leb 20 (length bs)) (recordOf bs) cutOff
 
 -- a refusal leaves the host as it is
 abbrev pub refused : Host → Answer → Handed

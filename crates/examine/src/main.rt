@@ -4,16 +4,15 @@
 
 ghost use mathlib.Core.Path.{_≡_};
 ghost use mathlib.Core.Bool.{true, _||_};
-ghost use Prim.Native.Nat.{_+_, _^_, _≤_, _<_};
+ghost use Prim.Native.Nat.{_+_, _≤_};
 ghost use lib.Dec.{eqb};
 ghost use lib.ListN.{length};
 ghost use Rattle.system.specs.Shape.{fits};
 ghost use Rattle.host.specs.Handed.{handed};
-ghost use Rattle.records.specs.Records.{number, recordOf};
 ghost use Rattle.script.specs.Script.{carried};
 ghost use Rattle.text.specs.Lines.{answerLine};
 ghost use Rattle.text.specs.Places.{Placed};
-ghost use Rattle.examine.specs.Examine.{recordAt, queryOf, refused, made, apart, planned, answered, hostShown, Examined};
+ghost use Rattle.examine.specs.Examine.{queryOf, refused, made, apart, planned, answered, hostShown, Examined};
 use host::Call;
 use host::Host;
 use host::Outcome;
@@ -35,56 +34,6 @@ struct Written {
 }
 
 // ---- a record
-
-// The number of n bytes from index `at` on, the most significant first.
-fn field(bytes: &[u8], at: usize, n: usize) -> u64
-    requires { ⌜ at + n ≤ length (now bytes) ⌝ }
-    requires { ⌜ n ≤ 8 ⌝ }
-    ensures { λ r. ⌜ r ≡ number (now (bytes .entry)) at n ⌝ }
-    ensures { λ r. ⌜ r < 256 ^ n ⌝ }
-{
-    let mut sum: u64 = 0;
-    let mut i: usize = 0;
-    while i < n {
-        sum = sum * 256 + bytes[at + i] as u64;
-        i += 1;
-    }
-    sum
-}
-
-fn record_of(bytes: &[u8]) -> Record
-    requires { ⌜ 20 ≤ length (now bytes) ⌝ }
-    ensures { λ r. ⌜ r ≡ recordOf (now (bytes .entry)) ⌝ }
-{
-    let kind = field(bytes, 0, 2) as u16;
-    let dom = field(bytes, 2, 2) as u16;
-    let vcpu = field(bytes, 4, 4) as u32;
-    let third = field(bytes, 8, 4) as u32;
-    let value = field(bytes, 12, 8);
-    Record {
-        kind,
-        dom,
-        vcpu,
-        third,
-        value,
-    }
-}
-
-// A record that was cut off is of no kind.
-fn record_at(bytes: &[u8]) -> Record
-    ensures { λ r. ⌜ r ≡ recordAt (now (bytes .entry)) ⌝ }
-{
-    if bytes.len() < records::RECORD {
-        return Record {
-            kind: u16::MAX,
-            dom: 0,
-            vcpu: 0,
-            third: 0,
-            value: 0,
-        };
-    }
-    record_of(bytes)
-}
 
 fn query_of(r: Record) -> Query
     ensures { λ q. ⌜ q ≡ queryOf r ⌝ }
@@ -217,12 +166,12 @@ fn examined(s: Script, bytes: &[u8], out: &mut [u8]) -> Written
     requires { ⌜ 739 ≤ length (now out) ⌝ }
     ensures { λ w. ⌜ Examined s (now (bytes .entry)) (now (out .entry)) w (now (out .exit)) ⌝ }
 {
-    let r = record_at(bytes);
+    let r = records::record_at(bytes);
     let before = s.host;
     let x = answered(before, s.built, bytes, r);
     let host = x.host;
     let answer = x.answer;
-    let told = reads::number_of(answer);
+    let told = system::number_of(answer);
     let built = is_built(s.built, told);
     let number = std::num::wrapping_add_u64(s.number, 1);
     let line = put_answer(out, number, told, x.count);

@@ -4,7 +4,6 @@
 ghost use mathlib.Core.Path.{_≡_};
 ghost use Prim.Native.Nat.{_+_, _≤_};
 ghost use lib.ListN.{length};
-ghost use Rattle.system.specs.Answers.{told};
 ghost use Rattle.text.specs.Lines.{vcpuLine};
 ghost use Rattle.text.specs.Places.{Placed};
 ghost use Rattle.reads.specs.Numbers.{bit, stateNumber, maybeNumbers, holderNumbers, violationNumbers, decisionNumbers};
@@ -105,24 +104,6 @@ fn decision_numbers(d: Decision) -> [u64; 4]
     }
 }
 
-/// An answer's number.
-pub fn number_of(answer: Answer) -> u64
-    ensures { λ r. ⌜ r ≡ told answer ⌝ }
-{
-    match answer {
-        Answer::Done => 0,
-        Answer::BadDomain => 1,
-        Answer::BadVcpu => 2,
-        Answer::BadPcpu => 3,
-        Answer::WrongState => 4,
-        Answer::PcpuBusy => 5,
-        Answer::NotAffine => 6,
-        Answer::TooLarge => 7,
-        Answer::Unsound => 8,
-        Answer::BadScript => 9,
-    }
-}
-
 // ---- what is read
 
 fn vcpu_numbers(s: System, q: Query) -> [u64; 8]
@@ -187,7 +168,7 @@ fn move_numbers(s: System, p: Scheduler, clock: Ticks) -> [u64; 8]
         wrong[0],
         wrong[1],
         wrong[2],
-        number_of(answer),
+        system::number_of(answer),
         chosen[0],
         chosen[1],
         chosen[2],

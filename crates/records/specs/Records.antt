@@ -5,7 +5,7 @@ use mathlib.Core.Path.{_≡_, ap}
 use mathlib.Core.List.{List, [], _∷_}
 use native.Mathlib.Nat.{add-zero, add-suc, mul-assoc, pow-suc}
 use native.Mathlib.Omega.{arith}
-use lib.Dec.{ltb, eqb}
+use lib.Dec.{ltb, leb, eqb}
 use lib.ListN.{length, getD}
 use Rattle.system.specs.declared.Answer.the-variants.{TooLarge, BadScript}
 use Rattle.system.specs.Shape.{fits}
@@ -23,6 +23,13 @@ number bs at (suc n) = number bs at n * 256 + getD bs (at + n) 0
 abbrev pub recordOf : List ℕ → Record
 recordOf bs =
     record { kind = number bs 0 2; dom = number bs 2 2; vcpu = number bs 4 4; third = number bs 8 4; value = number bs 12 8 }
+
+-- one that is cut off is of no kind
+abbrev pub cutOff : Record
+cutOff = record { kind = 65535; dom = 0; vcpu = 0; third = 0; value = 0 }
+
+unfoldable pub recordAt : List ℕ → Record
+recordAt bs = cond (leb 20 (length bs)) (recordOf bs) cutOff
 
 -- the calls by their kinds, from 0 on; kind 0 calls no host, it builds one
 abbrev pub callsOf : Record → List MaybeCall

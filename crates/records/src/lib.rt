@@ -3,7 +3,7 @@
 ghost use mathlib.Core.Path.{_≡_};
 ghost use Prim.Native.Nat.{_+_, _^_, _≤_, _<_};
 ghost use lib.ListN.{length};
-ghost use Rattle.records.specs.Records.{number, recordOf, callOf, buildOf, afterBuild, planOf};
+ghost use Rattle.records.specs.Records.{number, recordOf, recordAt, callOf, buildOf, afterBuild, planOf};
 use host::Call;
 use system::Answer;
 
@@ -79,6 +79,23 @@ fn record_of(bytes: &[u8]) -> Record
         third,
         value,
     }
+}
+
+/// What the record at the start of the bytes says; one that is cut off is of no kind.
+pub fn record_at(bytes: &[u8]) -> Record
+    ensures { λ r. ⌜ r ≡ recordAt (now (bytes .entry)) ⌝ }
+{
+    let cut_off = bytes.len() < RECORD;
+    if cut_off {
+        return Record {
+            kind: u16::MAX,
+            dom: 0,
+            vcpu: 0,
+            third: 0,
+            value: 0,
+        };
+    }
+    record_of(bytes)
 }
 
 fn call_of(r: Record) -> MaybeCall

@@ -78,29 +78,12 @@ fn built_after(built: bool, plan: Plan) -> bool
     }
 }
 
-fn number_of(answer: Answer) -> u64
-    ensures { λ r. ⌜ r ≡ told answer ⌝ }
-{
-    match answer {
-        Answer::Done => 0,
-        Answer::BadDomain => 1,
-        Answer::BadVcpu => 2,
-        Answer::BadPcpu => 3,
-        Answer::WrongState => 4,
-        Answer::PcpuBusy => 5,
-        Answer::NotAffine => 6,
-        Answer::TooLarge => 7,
-        Answer::Unsound => 8,
-        Answer::BadScript => 9,
-    }
-}
-
 fn put_answer(out: &mut [u8], at: usize, number: u64, answer: Answer, moves: usize) -> usize
     requires { ⌜ at + 63 ≤ length (now out) ⌝ }
     ensures { λ r. ⌜ Placed (now (out .entry)) at (answerLine number (told answer) moves) (now (out .exit)) r ⌝ }
     ensures { λ r. ⌜ r ≤ at + 63 ⌝ }
 {
-    let line = text::answer_line(number, number_of(answer), moves as u64);
+    let line = text::answer_line(number, system::number_of(answer), moves as u64);
     text::append(out, at, line)
 }
 

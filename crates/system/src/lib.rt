@@ -4,7 +4,7 @@
 ghost use mathlib.Core.Path.{_≡_};
 ghost use mathlib.Core.Bool.{cond, not};
 ghost use Prim.Native.Nat.{min};
-ghost use Rattle.system.specs.Answers.{outcome};
+ghost use Rattle.system.specs.Answers.{told, outcome};
 ghost use Rattle.system.specs.Records.{elapsed, inFlight};
 ghost use Rattle.system.specs.Shape.{fits, fresh, built};
 ghost use Rattle.system.specs.Reads.{domains, pcpus, vcpuCount, isIdle, vcpuOf, stateOf, runs, isRunning};
@@ -75,6 +75,24 @@ pub enum Answer {
     TooLarge,
     Unsound,
     BadScript,
+}
+
+/// The number by which an answer is told.
+pub fn number_of(answer: Answer) -> u64
+    ensures { λ r. ⌜ r ≡ told answer ⌝ }
+{
+    match answer {
+        Answer::Done => 0,
+        Answer::BadDomain => 1,
+        Answer::BadVcpu => 2,
+        Answer::BadPcpu => 3,
+        Answer::WrongState => 4,
+        Answer::PcpuBusy => 5,
+        Answer::NotAffine => 6,
+        Answer::TooLarge => 7,
+        Answer::Unsound => 8,
+        Answer::BadScript => 9,
+    }
 }
 
 /// An answer, and the system that the call leaves.

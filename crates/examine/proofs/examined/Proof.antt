@@ -16,7 +16,8 @@ use Rattle.script.specs.declared.Script.{Script}
 use Rattle.script.proofs.Turns.{scriptOf, placed-as}
 use Rattle.text.specs.Lines.{answerLine}
 use Rattle.text.specs.Places.{Placed, placed-then}
-use Rattle.examine.specs.Examine.{recordAt, answered, answeredBy, after, hostShown, text}
+use Rattle.records.specs.Records.{recordAt}
+use Rattle.examine.specs.Examine.{answered, answeredBy, after, hostShown, text}
 use Rattle.examine.proofs.examined.Statement.{statement}
 use Rattle.examine.proofs.examined.Tie as tie
 
