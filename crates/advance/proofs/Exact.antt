@@ -6,7 +6,7 @@ use native.Mathlib.Nat.{add-zero, lt-of-lt-of-le}
 use lib.Dec.{ltb, lit≤}
 use borrow.Author.Tests.{ltb-true, ltb-false}
 use Rattle.service.specs.Service.{moreDeserving}
-use Rattle.service.specs.Laws.{below-lid, deserving-exact, product-below}
+use Rattle.service.specs.Laws.{below-limit, deserving-exact, product-below}
 use Rattle.system.specs.declared.System.{System}
 use Rattle.system.specs.Records.{runtimeUntil}
 use Rattle.system.specs.Reads.{vcpuAt}
@@ -31,7 +31,7 @@ module _ {s : System} {π : Scheduler} {now : ℕ} (L : Level s π now) where
   unfolding serviceAt
   service-raw i =
       ap (λ (o : ℕ). min (rawService s now i + o) (2 ^ 128 - 1)) (L .offsets i)
-      ∙ (ap (λ (n : ℕ). min n (2 ^ 128 - 1)) (add-zero (rawService s now i)) ∙ below-lid _ (2 ^ 128) (lt-of-lt-of-le (L .services i) (lit≤ tt)))
+      ∙ (ap (λ (n : ℕ). min n (2 ^ 128 - 1)) (add-zero (rawService s now i)) ∙ below-limit _ (2 ^ 128) (lt-of-lt-of-le (L .services i) (lit≤ tt)))
 
   pub deserves-exact : (i j : ℕ) → deserves s π now i j ≡ ltb (rawService s now i * weightAt π j) (rawService s now j * weightAt π i)
   unfolding deserves

@@ -6,7 +6,7 @@ pub mod Enacted
 pub mod Accepted
 pub mod Exact
 pub mod Going
-pub mod Heat
+pub mod Potential
 pub mod Lag
 pub mod LagMoves
 pub mod Moves

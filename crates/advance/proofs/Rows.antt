@@ -33,7 +33,7 @@ use Rattle.advance.specs.ChoiceLaws.{is-present}
 use Rattle.advance.proofs.Stores.{setRow, row-there, row-here, limbs-same}
 use Rattle.advance.specs.Loops.{kindIn, kindOf, Row, Rows, Tabulates, idleAt, idleSet}
 
--- ---- a kind tells who waits and who is hot
+-- ---- a kind tells who waits and who is expired
 
 waits-by : (b : Bool) (q e : ℕ) (st : RunState) → eqb (cond b (kindIn q e st) 0) 1 ≡ (b && isRunnable st)
 waits-by false q e st = refl
@@ -46,16 +46,16 @@ waits-by true q e (Running p) = go (leb q e)
     go false = refl
 waits-by true q e Blocked = refl
 
-hot-by : (b : Bool) (q e : ℕ) (st : RunState) → leb 2 (cond b (kindIn q e st) 0) ≡ (b && isExpired q e st)
-hot-by false q e st = refl
-hot-by true q e Offline = refl
-hot-by true q e Runnable = refl
-hot-by true q e (Running p) = go (leb q e)
+expired-by : (b : Bool) (q e : ℕ) (st : RunState) → leb 2 (cond b (kindIn q e st) 0) ≡ (b && isExpired q e st)
+expired-by false q e st = refl
+expired-by true q e Offline = refl
+expired-by true q e Runnable = refl
+expired-by true q e (Running p) = go (leb q e)
   where
     go : (t : Bool) → leb 2 (cond t (p % 64 + 2) 0) ≡ t
     go true = le-leb 2 (p % 64 + 2) (omega arith)
     go false = refl
-hot-by true q e Blocked = refl
+expired-by true q e Blocked = refl
 
 on-by : (b : Bool) (q e : ℕ) (st : RunState) → ((p : ℕ) → st ≡ Running p → p < 64) → (b && isExpired q e st) ≡ true
     → cond b (kindIn q e st) 0 - 2 ≡ onto st
@@ -76,15 +76,15 @@ module _ {s : System} {π : Scheduler} {now : ℕ} {kind mask service weight : L
   unfolding tabled standings
   waits-same i l = ap (λ (k : ℕ). eqb k 1) (R i l .kind) ∙ waits-by (present s i) (π .quantum) (elapsed (vcpuAt s i) now) ((vcpuAt s i) .state)
 
-  hot-same : (i : ℕ) → i < slots s → t .hot i ≡ standings s π now .hot i
+  expired-same : (i : ℕ) → i < slots s → t .expired i ≡ standings s π now .expired i
   unfolding tabled standings
-  hot-same i l = ap (leb 2) (R i l .kind) ∙ hot-by (present s i) (π .quantum) (elapsed (vcpuAt s i) now) ((vcpuAt s i) .state)
+  expired-same i l = ap (leb 2) (R i l .kind) ∙ expired-by (present s i) (π .quantum) (elapsed (vcpuAt s i) now) ((vcpuAt s i) .state)
 
-  -- a hot slot runs on a pCPU of the system
-  on-same : (i : ℕ) → i < slots s → t .hot i ≡ true → t .on i ≡ standings s π now .on i
+  -- an expired slot runs on a pCPU of the system
+  on-same : (i : ℕ) → i < slots s → t .expired i ≡ true → t .on i ≡ standings s π now .on i
   unfolding tabled standings
   on-same i l h =
-      let x = sym (hot-same i l) ∙ h in
+      let x = sym (expired-same i l) ∙ h in
       let here : Present s i = is-present s i l (both _ _ x .0) in
       ap (λ (k : ℕ). k - 2) (R i l .kind)
       ∙ on-by (present s i) (π .quantum) (elapsed (vcpuAt s i) now) ((vcpuAt s i) .state)
@@ -99,7 +99,7 @@ module _ {s : System} {π : Scheduler} {now : ℕ} {kind mask service weight : L
   rows-alike =
       record {
         waits = waits-same;
-        hot = hot-same;
+        expired = expired-same;
         on = on-same;
         mask = λ i l w. R i l .mask;
         beats = λ i j l m x y. rw (R i l .service, R j m .service, R i l .weight, R j m .weight);

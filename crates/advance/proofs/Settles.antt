@@ -24,7 +24,7 @@ use Rattle.advance.specs.Choices.{choice}
 use Rattle.advance.specs.Advance.{enacted, goOn, settle, movesOn, limit}
 use Rattle.advance.specs.ChoiceLaws.{CanPreempt, choice-run, choice-complete, choice-preempt}
 use Rattle.advance.proofs.Enacted.{run-keeps, preempt-keeps}
-use Rattle.advance.proofs.Heat.{heat, heats, heat-le, heats-le, Cools, cools-sum, run-cools, preempt-cools}
+use Rattle.advance.proofs.Potential.{potential, potentials, potential-le, potentials-le, Drops, drops-sum, run-drops, preempt-drops}
 
 -- Moves made one after another, each the choice where it is made and each one that may be made.
 pub data Trace (π : Scheduler) (now : ℕ) : System → List Choice → System → Type 0 where
@@ -56,69 +56,69 @@ module _ {π : Scheduler} {now : ℕ} where
       let k = preempt-keeps s now i p π t S c in
       and-then k (trace-keeps r (k .shape .tables t) (k .sound))
 
-  -- each move takes one off the heat
-  trace-heat : {s t : System} {cs : List Choice} → Trace π now s cs t → 1 ≤ π .quantum → Tables s → Sound s
-      → length cs + heats t π now ≡ heats s π now
-  trace-heat rest h t S = omega arith
-  trace-heat (run {s} {i = i} {p = p} e c r) h t S =
+  -- each move takes one off the potential
+  trace-potential : {s t : System} {cs : List Choice} → Trace π now s cs t → 1 ≤ π .quantum → Tables s → Sound s
+      → length cs + potentials t π now ≡ potentials s π now
+  trace-potential rest h t S = omega arith
+  trace-potential (run {s} {i = i} {p = p} e c r) h t S =
       let k = run-keeps s now i p t S c in
-      omega (arith, trace-heat r h (k .shape .tables t) (k .sound), cools-sum (run-cools s π now i p h t S c))
-  trace-heat (preempt {s} {i = i} {p = p} e c r) h t S =
+      omega (arith, trace-potential r h (k .shape .tables t) (k .sound), drops-sum (run-drops s π now i p h t S c))
+  trace-potential (preempt {s} {i = i} {p = p} e c r) h t S =
       let k = preempt-keeps s now i p π t S c in
-      omega (arith, trace-heat r h (k .shape .tables t) (k .sound), cools-sum (preempt-cools s π now i p t S c))
+      omega (arith, trace-potential r h (k .shape .tables t) (k .sound), drops-sum (preempt-drops s π now i p t S c))
 
   pub trace-few : {s t : System} {cs : List Choice} → Trace π now s cs t → 1 ≤ π .quantum → Tables s → Sound s → length cs ≤ 2 * pcpus s
-  trace-few {s} r h t S = omega (arith, trace-heat r h t S, heats-le s π now)
+  trace-few {s} r h t S = omega (arith, trace-potential r h t S, potentials-le s π now)
 
   -- and one off that of its pCPU
-  cools-on : {s s′ : System} {p : ℕ} → Cools s s′ π now p → (q : ℕ) → q < pcpus s → cond (eqb p q) 1 0 + heat s′ π now q ≡ heat s π now q
-  cools-on {s} {s′} {p} c q l = go (ℕ-discrete p q)
+  drops-on : {s s′ : System} {p : ℕ} → Drops s s′ π now p → (q : ℕ) → q < pcpus s → cond (eqb p q) 1 0 + potential s′ π now q ≡ potential s π now q
+  drops-on {s} {s′} {p} c q l = go (ℕ-discrete p q)
     where
-      go : Dec (p ≡ q) → cond (eqb p q) 1 0 + heat s′ π now q ≡ heat s π now q
+      go : Dec (p ≡ q) → cond (eqb p q) 1 0 + potential s′ π now q ≡ potential s π now q
       go (yes e) = rw (← e, eq-eqb p p refl) (omega (arith, c .here))
       go (no n) = rw (ne-eqb p q n) (omega (arith, c .there q l (λ f. n (sym f))))
 
-  trace-heat-on : {s t : System} {cs : List Choice} (q : ℕ) → q < pcpus s → Trace π now s cs t → 1 ≤ π .quantum → Tables s → Sound s
-      → movesOn q cs + heat t π now q ≡ heat s π now q
+  trace-potential-on : {s t : System} {cs : List Choice} (q : ℕ) → q < pcpus s → Trace π now s cs t → 1 ≤ π .quantum → Tables s → Sound s
+      → movesOn q cs + potential t π now q ≡ potential s π now q
   unfolding movesOn
-  trace-heat-on q l rest h t S = omega arith
-  trace-heat-on q l (run {s} {i = i} {p = p} e c r) h t S =
+  trace-potential-on q l rest h t S = omega arith
+  trace-potential-on q l (run {s} {i = i} {p = p} e c r) h t S =
       let k = run-keeps s now i p t S c in
-      let x = run-cools s π now i p h t S c in
-      omega (arith, cools-on x q l, trace-heat-on q (omega (arith, x .pcpus)) r h (k .shape .tables t) (k .sound))
-  trace-heat-on q l (preempt {s} {i = i} {p = p} e c r) h t S =
+      let x = run-drops s π now i p h t S c in
+      omega (arith, drops-on x q l, trace-potential-on q (omega (arith, x .pcpus)) r h (k .shape .tables t) (k .sound))
+  trace-potential-on q l (preempt {s} {i = i} {p = p} e c r) h t S =
       let k = preempt-keeps s now i p π t S c in
-      let x = preempt-cools s π now i p t S c in
-      omega (arith, cools-on x q l, trace-heat-on q (omega (arith, x .pcpus)) r h (k .shape .tables t) (k .sound))
+      let x = preempt-drops s π now i p t S c in
+      omega (arith, drops-on x q l, trace-potential-on q (omega (arith, x .pcpus)) r h (k .shape .tables t) (k .sound))
 
   pub trace-two : {s t : System} {cs : List Choice} (q : ℕ) → q < pcpus s → Trace π now s cs t → 1 ≤ π .quantum → Tables s → Sound s → movesOn q cs ≤ 2
-  unfolding heat
-  trace-two {s} q l r h t S = omega (arith, trace-heat-on q l r h t S, heat-le s π now (occupantAt s q))
+  unfolding potential
+  trace-two {s} q l r h t S = omega (arith, trace-potential-on q l r h t S, potential-le s π now (occupantAt s q))
 
--- with more fuel than heat, settling ends at rest
-settle-rests : (π : Scheduler) (now k : ℕ) (s : System) → 1 ≤ π .quantum → Tables s → Sound s → heats s π now < k
+-- with more fuel than potential, settling ends at rest
+settle-rests : (π : Scheduler) (now k : ℕ) (s : System) → 1 ≤ π .quantum → Tables s → Sound s → potentials s π now < k
     → choice ((settle π now k s) .system) π now ≡ Rest
 unfolding settle
 settle-rests π now zero s h t S l = absurd (omega arith)
 settle-rests π now (suc k) s h t S l = go (choice s π now) refl (λ u. settle-rests π now k u h)
   where
     go : (c : Choice) → choice s π now ≡ c
-        → ((u : System) → Tables u → Sound u → heats u π now < k → choice ((settle π now k u) .system) π now ≡ Rest)
+        → ((u : System) → Tables u → Sound u → potentials u π now < k → choice ((settle π now k u) .system) π now ≡ Rest)
         → choice ((goOn (λ u. settle π now k u) s now c) .system) π now ≡ Rest
     go (Run i p) e ih =
         let c = choice-run s π now i p e in
         let m = run-keeps s now i p t S c in
-        ih _ (m .shape .tables t) (m .sound) (omega (arith, cools-sum (run-cools s π now i p h t S c)))
+        ih _ (m .shape .tables t) (m .sound) (omega (arith, drops-sum (run-drops s π now i p h t S c)))
     go (Preempt i p) e ih =
         let c = choice-preempt s π now i p e in
         let m = preempt-keeps s now i p π t S c in
-        ih _ (m .shape .tables t) (m .sound) (omega (arith, cools-sum (preempt-cools s π now i p t S c)))
+        ih _ (m .shape .tables t) (m .sound) (omega (arith, drops-sum (preempt-drops s π now i p t S c)))
     go Rest e ih = e
 
 -- the fuel of an advance is enough
 pub advance-rests : (π : Scheduler) (now : ℕ) (s : System) → 1 ≤ π .quantum → Tables s → Sound s
     → choice ((settle π now (limit s) s) .system) π now ≡ Rest
-advance-rests π now s h t S = settle-rests π now (limit s) s h t S (omega (arith, heats-le s π now))
+advance-rests π now s h t S = settle-rests π now (limit s) s h t S (omega (arith, potentials-le s π now))
 
 -- at rest nobody waits beside an idle pCPU that its mask admits
 pub rest-quiet : (s : System) (π : Scheduler) (now i p : ℕ) → choice s π now ≡ Rest → CanRun s i p → ⊥

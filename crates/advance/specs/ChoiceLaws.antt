@@ -86,9 +86,9 @@ module _ (s : System) (π : Scheduler) (now : ℕ) where
         admits = c .affine;
       }
 
-  hot-can : (i : ℕ) → i < slots s → standings s π now .hot i ≡ true → CanPreempt s π now i (onto (stateAt s i))
+  expired-can : (i : ℕ) → i < slots s → standings s π now .expired i ≡ true → CanPreempt s π now i (onto (stateAt s i))
   unfolding standings
-  hot-can i l h = let e = both _ _ h in late (stateAt s i) refl (is-present s i l (e .0)) (e .1)
+  expired-can i l h = let e = both _ _ h in late (stateAt s i) refl (is-present s i l (e .0)) (e .1)
     where
       late : (st : RunState) → stateAt s i ≡ st → Present s i → isExpired (π .quantum) (elapsed (vcpuAt s i) now) st ≡ true
           → CanPreempt s π now i (onto st)
@@ -97,9 +97,9 @@ module _ (s : System) (π : Scheduler) (now : ℕ) where
       late (Running q) r h x = record { present = h; on = r; late = leb-true _ _ x }
       late Blocked r h x = absurd (false≢true x)
 
-  pub can-hot : (i p : ℕ) → CanPreempt s π now i p → standings s π now .hot i ≡ true
+  pub can-expired : (i p : ℕ) → CanPreempt s π now i p → standings s π now .expired i ≡ true
   unfolding standings
-  can-hot i p c = all-two (present-is (c .present) .1) (ap (isExpired (π .quantum) (elapsed (vcpuAt s i) now)) (c .on) ∙ le-leb _ _ (c .late))
+  can-expired i p c = all-two (present-is (c .present) .1) (ap (isExpired (π .quantum) (elapsed (vcpuAt s i) now)) (c .on) ∙ le-leb _ _ (c .late))
 
   beats-rival : (i j : ℕ) → Beats (standings s π now) (slots s) i j → Rival s π now i (onto (stateAt s i)) j
   unfolding standings
@@ -134,7 +134,7 @@ module _ (s : System) (π : Scheduler) (now : ℕ) where
   unfolding choice standings
   choice-preempt i p e =
       let k = preempt-beaten (standings s π now) (slots s) i p e in
-      subst (CanPreempt s π now i) (k .on) (hot-can i (k .below) (k .hot))
+      subst (CanPreempt s π now i) (k .on) (expired-can i (k .below) (k .expired))
 
   -- and who is preempted has a rival
   pub choice-beaten : (i p : ℕ) → choice s π now ≡ Preempt i p → (j : ℕ) × Rival s π now i p j
@@ -153,7 +153,7 @@ module _ (s : System) (π : Scheduler) (now : ℕ) where
       go false x = refl
       go true x =
           absurd
-          (rest-unbeaten (standings s π now) (slots s) i j e (present-is (c .present) .0) (can-hot i p c)
+          (rest-unbeaten (standings s π now) (slots s) i j e (present-is (c .present) .0) (can-expired i p c)
           (rival-beats i p j c (record { present = h; ready = r; affine = a; wins = x })))
 
   -- where those that may be dispatched are ranked, none of them deserves it more than who is; the earliest is, of those that
@@ -174,14 +174,14 @@ module _ (s : System) (π : Scheduler) (now : ℕ) where
   -- that deserve it alike
   module _ (R : Ranks (Preemptible s π now) (deserves s π now)) (i p j q k : ℕ) (e : choice s π now ≡ Preempt i p) (c : CanPreempt s π now j q)
       (r : Rival s π now j q k) where
-    preemptible : (x y : ℕ) → x < slots s → standings s π now .hot x ≡ true → Beats (standings s π now) (slots s) x y → Preemptible s π now x
-    preemptible x y l h b = record { on = _; can = hot-can x l h; by = y; rival = beats-rival x y b }
+    preemptible : (x y : ℕ) → x < slots s → standings s π now .expired x ≡ true → Beats (standings s π now) (slots s) x y → Preemptible s π now x
+    preemptible x y l h b = record { on = _; can = expired-can x l h; by = y; rival = beats-rival x y b }
 
     pub choice-worst : deserves s π now i j ≡ false
     unfolding choice standings
     choice-worst =
-        victim-worst (standings s π now) (slots s) R preemptible i p j k e (present-is (c .present) .0) (can-hot j q c) (rival-beats j q k c r)
+        victim-worst (standings s π now) (slots s) R preemptible i p j k e (present-is (c .present) .0) (can-expired j q c) (rival-beats j q k c r)
 
     pub choice-worst-earliest : j < i → deserves s π now j i ≡ true
     unfolding choice standings
-    choice-worst-earliest l = victim-earliest (standings s π now) (slots s) R preemptible i p j k e l (can-hot j q c) (rival-beats j q k c r)
+    choice-worst-earliest l = victim-earliest (standings s π now) (slots s) R preemptible i p j k e l (can-expired j q c) (rival-beats j q k c r)

@@ -30,7 +30,7 @@ unfoldable pub standings : System → Scheduler → ℕ → Standings
 standings s π now =
     record {
       waits = λ i. present s i && isRunnable ((vcpuAt s i) .state);
-      hot = λ i. present s i && isExpired (π .quantum) (elapsed (vcpuAt s i) now) ((vcpuAt s i) .state);
+      expired = λ i. present s i && isExpired (π .quantum) (elapsed (vcpuAt s i) now) ((vcpuAt s i) .state);
       on = λ i. onto ((vcpuAt s i) .state);
       mask = λ i. (vcpuAt s i) .affinity;
       beats = deserves s π now;

@@ -42,7 +42,7 @@ use Rattle.host.specs.Agreement.{Exists, Says, Agrees}
 use Rattle.host.proofs.Holders.{shaped-present, agrees}
 use Rattle.host.specs.Lists.{bookAfter, openPart, bookService}
 use Rattle.host.proofs.Along.{Kept, step-goes, advance-rests-here, accounted-slice, weighed-slice, boosted-slice}
-use Rattle.host.proofs.Young.{New}
+use Rattle.host.proofs.Unrun.{New}
 use Rattle.host.proofs.Pooling.{Pooling}
 use Rattle.host.proofs.PoolAlong.{Prepared}
 
@@ -96,7 +96,7 @@ module _ (d v p e u q : ℕ) (hd : d ≤ 16) (hv : v ≤ 8) (hp : p ≤ 64) wher
   unfolding fresh freshPolicy value
   fresh-prepared =
       record {
-        young =
+        unrun =
             record {
               new = λ i h. subst (New (fullMask p)) (sym (at-slot h)) (record { rests = off-nr; none = refl; mask = refl });
             };

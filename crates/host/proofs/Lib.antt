@@ -6,7 +6,7 @@ pub mod Matching
 pub mod PoolAlong
 pub mod Pooling
 pub mod Shrinks
-pub mod Young
+pub mod Unrun
 pub mod Demand3
 pub mod Holders
 pub mod Examples

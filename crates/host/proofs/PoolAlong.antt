@@ -26,7 +26,7 @@ use Rattle.host.specs.Lists.{Fits, AllFit, Prepares, Departs, PoolRest, 
 use Rattle.host.specs.Lists as lists
 use Rattle.host.proofs.Along.{Kept, step-goes, advance-rests-here}
 use Rattle.host.proofs.Shrinks.{block-shrinks, offline-shrinks, offline-all-shrinks}
-use Rattle.host.proofs.Young.{Young, admit-young, block-young, wake-young, offline-young, offline-all-young, young-lag}
+use Rattle.host.proofs.Unrun.{Unrun, admit-unrun, block-unrun, wake-unrun, offline-unrun, offline-all-unrun, unrun-lag}
 use Rattle.host.proofs.Pooling.{Words, slack, Pooling, first-advance, next-advance, departure, boosted}
 
 -- ---- a refused call leaves the host as it was
@@ -51,7 +51,7 @@ refused-same {h = h} (Call.Advance now) K n = absurd (n (advance-rests-here now 
 -- ---- before the first advance
 
 pub record Prepared (h : Host) : Type 0 where
-  pub young : Young (h .system)
+  pub unrun : Unrun (h .system)
   pub plain : Plain (h .scheduler)
   pub tabled : Tabled (h .scheduler)
   pub words : Words (h .system)
@@ -61,29 +61,29 @@ abbrev Next : Host → Call → Host
 Next h c = (step h c) .host
 
 -- a call of the mechanism touches no account
-by-mechanism : {h : Host} {s : System} → Prepared h → Keeps (h .system) s → Young s → Prepared (record { system = s; scheduler = h .scheduler })
-by-mechanism P m y = record { young = y; plain = P .plain; tabled = P .tabled; words = m .times (P .words) .word; unseen = P .unseen }
+by-mechanism : {h : Host} {s : System} → Prepared h → Keeps (h .system) s → Unrun s → Prepared (record { system = s; scheduler = h .scheduler })
+by-mechanism P m y = record { unrun = y; plain = P .plain; tabled = P .tabled; words = m .times (P .words) .word; unseen = P .unseen }
 
 prepare : {k : Shape} {b : Book} {h : Host} {c : Call} → Kept k b h → Prepared h → Fits c → Prepares c → Prepared (Next h c)
 unfolding step setWakeBoost value
 prepare {h = h} K P f (lists.Prepares.admit d v) =
     let T = K .in-step in
-    by-mechanism P (requested-keeps _ (T .sound) (T .tables) d v _) (admit-young _ (T .tables) (T .sound) (P .young) d v)
+    by-mechanism P (requested-keeps _ (T .sound) (T .tables) d v _) (admit-unrun _ (T .tables) (T .sound) (P .unrun) d v)
 prepare {h = h} K P f (lists.Prepares.block d v now) =
     let T = K .in-step in
-    by-mechanism P (requested-keeps _ (T .sound) (T .tables) d v _) (block-young _ (T .tables) (T .sound) (P .young) d v now)
+    by-mechanism P (requested-keeps _ (T .sound) (T .tables) d v _) (block-unrun _ (T .tables) (T .sound) (P .unrun) d v now)
 prepare {h = h} K P f (lists.Prepares.wake d v) =
     let T = K .in-step in
-    by-mechanism P (requested-keeps _ (T .sound) (T .tables) d v _) (wake-young _ (T .tables) (T .sound) (P .young) d v)
+    by-mechanism P (requested-keeps _ (T .sound) (T .tables) d v _) (wake-unrun _ (T .tables) (T .sound) (P .unrun) d v)
 prepare {h = h} K P f (lists.Prepares.offline d v now) =
     let T = K .in-step in
-    by-mechanism P (requested-keeps _ (T .sound) (T .tables) d v _) (offline-young _ (T .tables) (T .sound) (P .young) d v now)
+    by-mechanism P (requested-keeps _ (T .sound) (T .tables) d v _) (offline-unrun _ (T .tables) (T .sound) (P .unrun) d v now)
 prepare {h = h} K P f (lists.Prepares.offline-all d now) =
     let T = K .in-step in
-    by-mechanism P (offline-all-keeps _ (T .sound) (T .tables) d now) (offline-all-young _ (T .tables) (T .sound) (P .young) d now)
+    by-mechanism P (offline-all-keeps _ (T .sound) (T .tables) d now) (offline-all-unrun _ (T .tables) (T .sound) (P .unrun) d now)
 prepare {h = h} K P f (lists.Prepares.weigh d v w) =
     record {
-      young = P .young;
+      unrun = P .unrun;
       plain = record { offsets = λ i. look i .offset ∙ P .plain .offsets i; weights = λ i. weight i (look i .weight) };
       tabled = set-weight-tabled (h .scheduler) (P .tabled) d v w;
       words = P .words;
@@ -99,7 +99,7 @@ prepare {h = h} K P f (lists.Prepares.weigh d v w) =
     weight i (inr e) = omega (arith, P .plain .weights i)
 prepare {h = h} K P f (lists.Prepares.boost on) =
     record {
-      young = P .young;
+      unrun = P .unrun;
       plain =
           record {
             offsets = λ i. ap (λ (a : Account). value (a .offset)) (look i);
@@ -124,7 +124,7 @@ start {h = h} g now fit K P =
     let T = K .in-step in
     subst (λ (π : Scheduler). Pooling g now ((Next h (Call.Advance now)) .system) π) (sym (A .policy))
     (first-advance now g fit (K .slice) (T .tables) (T .sound) (P .words) (P .tabled) (P .plain) (P .unseen)
-    (young-lag _ (T .tables) (T .sound) (P .young) (weightAt (h .scheduler)) (slack (h .scheduler) g) now) (A .trace) (A .rests))
+    (unrun-lag _ (T .tables) (T .sound) (P .unrun) (weightAt (h .scheduler)) (slack (h .scheduler) g) now) (A .trace) (A .rests))
 
 go-on : {k : Shape} {b : Book} {h : Host} (g t now : ℕ) → now < 2 ^ 64 → t ≤ now → now ≤ t + g → Kept k b h → Bounded g t h
     → Bounded g now (Next h (Call.Advance now))

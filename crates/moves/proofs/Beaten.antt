@@ -11,7 +11,7 @@ use Rattle.moves.specs.declared.Leader.{Leader}
 use Rattle.moves.specs.Scan.{some}
 use Rattle.moves.specs.Decide.{Standings, never, beaten}
 use Rattle.moves.specs.Table.{rowAt, tabled}
-use Rattle.moves.specs.Loops.{HoldsHot}
+use Rattle.moves.specs.Loops.{HoldsExpired}
 use Rattle.moves.proofs.Steps.{passes}
 
 -- one more slot does not beat x
@@ -28,7 +28,7 @@ unbeaten t i x h e =
     fails true true c (inr (inl e)) = absurd (true≢false e)
     fails true true c (inl e) = absurd (true≢false e)
 
-module _ (kind mask service weight : List ℕ) (x : Leader) (h : HoldsHot kind mask service weight x) where
+module _ (kind mask service weight : List ℕ) (x : Leader) (h : HoldsExpired kind mask service weight x) where
   -- the runner's numbers are those of its slot
   pub admits-same : (j : ℕ) →
       let t = tabled kind mask service weight 0 in

@@ -1,4 +1,4 @@
--- The decision depends only on what is known of the slots below n that wait or are hot, and of the pCPUs. Assumes nothing.
+-- The decision depends only on what is known of the slots below n that wait or are expired, and of the pCPUs. Assumes nothing.
 use Prim.Native.Nat.{ℕ, _<_}
 use mathlib.Core.Bool.{Bool, true, false, _&&_}
 use mathlib.Core.Path.{_≡_, refl, _∙_, ap, ap₂}
@@ -11,15 +11,15 @@ use Rattle.moves.specs.declared.Choice.the-variants.{Run, Preempt}
 use Rattle.moves.specs.Scan.{Pick, nobody, at, some, scan-sound, scan-cong}
 use Rattle.moves.specs.Decide.{Standings, never, placement, placeable, beaten, loses, chosen, victim, orPreempt, orRun, decide}
 
--- slot i waits or is hot: it takes part in a decision
+-- slot i waits or is expired: it takes part in a decision
 abbrev pub Involved : Standings → ℕ → Type 0
-Involved t i = (t .waits i ≡ true) ⊎ (t .hot i ≡ true)
+Involved t i = (t .waits i ≡ true) ⊎ (t .expired i ≡ true)
 
 -- t and t′ are alike for a decision over n slots
 pub record Alike (t t′ : Standings) (n : ℕ) : Type 0 where
   pub waits : (i : ℕ) → i < n → t .waits i ≡ t′ .waits i
-  pub hot : (i : ℕ) → i < n → t .hot i ≡ t′ .hot i
-  pub on : (i : ℕ) → i < n → t .hot i ≡ true → t .on i ≡ t′ .on i
+  pub expired : (i : ℕ) → i < n → t .expired i ≡ t′ .expired i
+  pub on : (i : ℕ) → i < n → t .expired i ≡ true → t .on i ≡ t′ .on i
   pub mask : (i : ℕ) → i < n → t .waits i ≡ true → t .mask i ≡ t′ .mask i
   pub beats : (i j : ℕ) → i < n → j < n → Involved t i → Involved t j → t .beats i j ≡ t′ .beats i j
   pub idle : (p : ℕ) → p < 64 → t .idle p ≡ t′ .idle p
@@ -40,7 +40,7 @@ module _ {t t′ : Standings} {n : ℕ} (A : Alike t t′ n) where
   unfolding placeable
   placeable-same i l = and-cong _ _ _ _ (A .waits i l) (λ w. ap (λ (p : ℕ). ltb p 64) (placement-same i l w))
 
-  beaten-same : (i : ℕ) → i < n → t .hot i ≡ true → beaten t n i ≡ beaten t′ n i
+  beaten-same : (i : ℕ) → i < n → t .expired i ≡ true → beaten t n i ≡ beaten t′ n i
   unfolding beaten
   beaten-same i l h =
       ap some
@@ -53,7 +53,7 @@ module _ {t t′ : Standings} {n : ℕ} (A : Alike t t′ n) where
 
   loses-same : (i : ℕ) → i < n → loses t n i ≡ loses t′ n i
   unfolding loses
-  loses-same i l = and-cong _ _ _ _ (A .hot i l) (λ h. beaten-same i l h)
+  loses-same i l = and-cong _ _ _ _ (A .expired i l) (λ h. beaten-same i l h)
 
   chosen-same : chosen t n ≡ chosen t′ n
   unfolding chosen placeable

@@ -10,7 +10,7 @@ use Rattle.moves.specs.declared.Leader.{Leader}
 use Rattle.moves.specs.Scan.{scan}
 use Rattle.moves.specs.Decide.{beaten, loses}
 use Rattle.moves.specs.Table.{tabled}
-use Rattle.moves.specs.Loops.{ahead, HoldsHot, Leads}
+use Rattle.moves.specs.Loops.{ahead, HoldsExpired, Leads}
 use Rattle.moves.proofs.Steps as steps
 
 -- l leads the scan for a victim among n slots, as far as slot i
@@ -24,7 +24,7 @@ module _ (kind mask service weight : List ℕ) (n : ℕ) where
       → Leading kind mask service weight n i l → Leading kind mask service weight n (suc i) l
   passes i l = let t = tabled kind mask service weight 0 in steps.keeps (loses t n) (λ k j. t .beats j k) i
 
-  -- one that is not hot, or not beaten, changes nothing
+  -- one that is not expired, or not beaten, changes nothing
   pub skips : (i : ℕ) (l : Leader) → getD kind i 0 < 2
       → Leading kind mask service weight n i l → Leading kind mask service weight n (suc i) l
   unfolding tabled loses
@@ -35,8 +35,8 @@ module _ (kind mask service weight : List ℕ) (n : ℕ) where
   unfolding tabled loses
   unbeaten i l e = passes i l (rw e (and-false (leb 2 (getD kind i 0))))
 
-  -- next is hot
-  module _ (l next : Leader) (h : HoldsHot kind mask service weight next) (lead : Leading kind mask service weight n (next .at) l) where
+  -- next is expired
+  module _ (l next : Leader) (h : HoldsExpired kind mask service weight next) (lead : Leading kind mask service weight n (next .at) l) where
     pub takes : 2 ≤ getD kind (next .at) 0 → beaten (tabled kind mask service weight 0) n (next .at) ≡ true
         → cond (l .found) (ahead l next) true ≡ true → Leading kind mask service weight n (suc (next .at)) next
     unfolding tabled loses

@@ -1,5 +1,5 @@
 -- The decision: whom to dispatch onto which idle pCPU; else whom to preempt; else neither. It is made over what is known of
--- each slot below n (who waits, who is hot: runs and may be preempted, where it runs, its mask, who beats whom) and of each
+-- each slot below n (who waits, who is expired: runs and has had its slice, where it runs, its mask, who beats whom) and of each
 -- pCPU (whether it is idle), however that is got.
 use Prim.Native.Nat.{ℕ}
 use mathlib.Core.Bool.{Bool, _&&_}
@@ -12,7 +12,7 @@ use Rattle.moves.specs.Scan.{Pick, nobody, at, scan, some}
 -- what is known of the slots and the pCPUs
 pub record Standings : Type 0 where
   pub waits : ℕ → Bool
-  pub hot : ℕ → Bool
+  pub expired : ℕ → Bool
   pub on : ℕ → ℕ
   pub mask : ℕ → ℕ
   pub beats : ℕ → ℕ → Bool
@@ -34,9 +34,9 @@ placeable t i = t .waits i && ltb (placement t i) 64
 unfoldable pub beaten : Standings → ℕ → ℕ → Bool
 beaten t n i = some (scan (λ j. t .waits j && (permits (t .mask j) (t .on i) && t .beats j i)) never n)
 
--- i is hot and beaten
+-- i is expired and beaten
 unfoldable pub loses : Standings → ℕ → ℕ → Bool
-loses t n i = t .hot i && beaten t n i
+loses t n i = t .expired i && beaten t n i
 
 -- the most deserving that can be placed
 unfoldable pub chosen : Standings → ℕ → Pick

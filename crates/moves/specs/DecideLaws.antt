@@ -135,10 +135,10 @@ run-found t n i p l f = go (chosen t n) refl
     go (at j) c = record { who = j; onto = placement t j; is = refl }
     go nobody c = absurd (scan-complete (placeable t) (t .beats) n i l (fits-placeable t i p f) c)
 
--- a Preempt is of one that is hot, where it runs, and that a waiter beats who may run there
+-- a Preempt is of one that is expired, where it runs, and that a waiter beats who may run there
 pub record IsStopped (t : Standings) (n i p : ℕ) : Type 0 where
   pub below : i < n
-  pub hot : t .hot i ≡ true
+  pub expired : t .expired i ≡ true
   pub on : t .on i ≡ p
   pub by : ℕ
   pub beats : Beats t n i by
@@ -150,10 +150,10 @@ preempt-beaten t n i p e =
     let h = scan-sound (loses t n) (λ k j. t .beats j k) n i (w .0) in
     let g = both _ _ (h .1) in
     let k = beaten-by t n i (g .1) in
-    record { below = h .0; hot = g .0; on = w .1; by = k .0; beats = k .1 }
+    record { below = h .0; expired = g .0; on = w .1; by = k .0; beats = k .1 }
 
--- at Rest nobody hot is beaten by a waiter who may run there
-pub rest-unbeaten : (t : Standings) (n i j : ℕ) → decide t n ≡ Rest → i < n → t .hot i ≡ true → Beats t n i j → ⊥
+-- at Rest nobody expired is beaten by a waiter who may run there
+pub rest-unbeaten : (t : Standings) (n i j : ℕ) → decide t n ≡ Rest → i < n → t .expired i ≡ true → Beats t n i j → ⊥
 unfolding victim loses
 rest-unbeaten t n i j e l h b =
     scan-complete (loses t n) (λ k j. t .beats j k) n i l (all-two h (by-beaten t n i j b)) (rest-why t n e)
@@ -183,7 +183,7 @@ module _ (t : Standings) (n : ℕ) {P : ℕ → Type 0} (R : Ranks P (t .beats))
   pick-earliest i p j q e l f =
       scan-earliest (placeable t) (t .beats) R n passes n i j (le-refl n) (run-why t n i p e .0) l (fits-placeable t j q f)
 
-module _ (t : Standings) (n : ℕ) {P : ℕ → Type 0} (R : Ranks P (t .beats)) (P-of : (i j : ℕ) → i < n → t .hot i ≡ true → Beats t n i j → P i) where
+module _ (t : Standings) (n : ℕ) {P : ℕ → Type 0} (R : Ranks P (t .beats)) (P-of : (i j : ℕ) → i < n → t .expired i ≡ true → Beats t n i j → P i) where
   stops : (i : ℕ) → i < n → loses t n i ≡ true → P i
   unfolding loses
   stops i l c =
@@ -191,13 +191,13 @@ module _ (t : Standings) (n : ℕ) {P : ℕ → Type 0} (R : Ranks P (t .beats))
       let k = beaten-by t n i (g .1) in
       P-of i (k .0) l (g .0) (k .1)
 
-  pub victim-worst : (i p j k : ℕ) → decide t n ≡ Preempt i p → j < n → t .hot j ≡ true → Beats t n j k → t .beats i j ≡ false
+  pub victim-worst : (i p j k : ℕ) → decide t n ≡ Preempt i p → j < n → t .expired j ≡ true → Beats t n j k → t .beats i j ≡ false
   unfolding victim loses
   victim-worst i p j k e l h b =
       scan-least (loses t n) (λ u w. t .beats w u) (turned R) n stops n i j (le-refl n) (preempt-why t n i p e .0) l
       (all-two h (by-beaten t n j k b))
 
-  pub victim-earliest : (i p j k : ℕ) → decide t n ≡ Preempt i p → j < i → t .hot j ≡ true → Beats t n j k → t .beats j i ≡ true
+  pub victim-earliest : (i p j k : ℕ) → decide t n ≡ Preempt i p → j < i → t .expired j ≡ true → Beats t n j k → t .beats j i ≡ true
   unfolding victim loses
   victim-earliest i p j k e l h b =
       scan-earliest (loses t n) (λ u w. t .beats w u) (turned R) n stops n i j (le-refl n) (preempt-why t n i p e .0) l

@@ -31,9 +31,9 @@ abbrev pub LeadsChosen : List ℕ → List ℕ → List ℕ → List ℕ → ℕ
 LeadsChosen kind mask service weight idle n l =
     let t = tabled kind mask service weight idle in Leads service weight (placement t) (chosen t n) l
 
--- l has the numbers of a hot slot, with the pCPU that it runs on, whatever is idle
-abbrev pub HoldsHot : List ℕ → List ℕ → List ℕ → List ℕ → Leader → Type 0
-HoldsHot kind mask service weight l = Holds service weight (tabled kind mask service weight 0 .on) l
+-- l has the numbers of an expired slot, with the pCPU that it runs on, whatever is idle
+abbrev pub HoldsExpired : List ℕ → List ℕ → List ℕ → List ℕ → Leader → Type 0
+HoldsExpired kind mask service weight l = Holds service weight (tabled kind mask service weight 0 .on) l
 
 -- l stands for the least deserving that loses, with the pCPU that it runs on
 abbrev pub LeadsVictim : List ℕ → List ℕ → List ℕ → List ℕ → ℕ → Leader → Type 0

@@ -7,7 +7,7 @@ ghost use Prim.Native.Nat.{_≤_, _<_, min};
 ghost use Rattle.masks.specs.Masks.{permits, first};
 ghost use Rattle.moves.specs.Decide.{beaten, decide};
 ghost use Rattle.moves.specs.Table.{tabled, rowAt};
-ghost use Rattle.moves.specs.Loops.{ahead, HoldsHot, LeadsChosen, LeadsVictim};
+ghost use Rattle.moves.specs.Loops.{ahead, HoldsExpired, LeadsChosen, LeadsVictim};
 
 /// One move, or none, by the slots of the table.
 pub enum Choice {
@@ -122,7 +122,7 @@ fn some_affine_waiter_beats<'a>(
     n: usize,
     runner: Leader,
 ) -> bool
-    requires { ⌜ (n ≤ 128) × HoldsHot (now kind) (now mask) (now service) (now weight) runner ⌝ }
+    requires { ⌜ (n ≤ 128) × HoldsExpired (now kind) (now mask) (now service) (now weight) runner ⌝ }
     ensures { λ r. ⌜ r ≡ beaten (tabled (now (kind .entry)) (now (mask .entry)) (now (service .entry)) (now (weight .entry)) 0)
         n (runner .at) ⌝ }
 {
@@ -141,7 +141,7 @@ fn some_affine_waiter_beats<'a>(
     false
 }
 
-// The least deserving hot slot that some waiter beats. Whether it would lead is tested first: that is
+// The least deserving expired slot that some waiter beats. Whether it would lead is tested first: that is
 // cheaper, and the answer is the same.
 fn best_preemption<'a>(
     kind: &'a [u32; 128],

@@ -18,16 +18,16 @@ use Rattle.sched.specs.declared.Change.{Change}
 use Rattle.sched.specs.declared.Slot.{Slot}
 use Rattle.sched.specs.declared.Slot.the-variants.{At}
 use Rattle.sched.specs.Steps.{refused, changed, ran, applied, found, requested, run}
-use Rattle.sched.specs.Slots.{slotOf, Seated}
+use Rattle.sched.specs.Slots.{slotOf, InTable}
 use Rattle.sched.proofs.Legal.{Legal, stays, keeps, goes-on, comes-off}
 use Rattle.sched.specs.CanRun.{stateAt}
 use Rattle.sched.proofs.Requests.{changed-legal, ran-legal}
 
-pub legal-seated : {s : System} {i : ℕ} {c : Change} → Sound s → Present s i → Legal s i c → Seated c
-legal-seated S h (stays a) = tt
-legal-seated S h (keeps k) = tt
-legal-seated S h (goes-on c o) = omega (arith, c .exists)
-legal-seated {s} {i} S h (comes-off {v} {p} now on k) = let o = S .runs i p h on in omega (arith, o .exists)
+pub legal-in-table : {s : System} {i : ℕ} {c : Change} → Sound s → Present s i → Legal s i c → InTable c
+legal-in-table S h (stays a) = tt
+legal-in-table S h (keeps k) = tt
+legal-in-table S h (goes-on c o) = omega (arith, c .exists)
+legal-in-table {s} {i} S h (comes-off {v} {p} now on k) = let o = S .runs i p h on in omega (arith, o .exists)
 
 -- where d/v stands on s
 abbrev pub looked : System → ℕ → ℕ → Slot
@@ -87,12 +87,12 @@ module _ (s : System) (hold : invariantsHold s ≡ true) where
     unfolding run
     run-told p now h = rw (hold, lt-ltb p (pcpus s) h) (found-told _)
 
-    pub changed-seated : {i : ℕ} (q : Request) → Located s d v i → Seated (changed q (fullAffinity s) (vcpuAt s i))
-    changed-seated {i} q l = legal-seated sound (l .present) (changed-legal s i sound (l .present) q (fullAffinity s))
+    pub changed-in-table : {i : ℕ} (q : Request) → Located s d v i → InTable (changed q (fullAffinity s) (vcpuAt s i))
+    changed-in-table {i} q l = legal-in-table sound (l .present) (changed-legal s i sound (l .present) q (fullAffinity s))
 
-    pub ran-seated : {i : ℕ} (p now : ℕ) → p < pcpus s → Located s d v i
-        → Seated (ran (vcpuAt s i) d v p (occupantAt s p) now (stateAt s i))
-    ran-seated {i} p now h l =
-        legal-seated sound (l .present)
+    pub ran-in-table : {i : ℕ} (p now : ℕ) → p < pcpus s → Located s d v i
+        → InTable (ran (vcpuAt s i) d v p (occupantAt s p) now (stateAt s i))
+    ran-in-table {i} p now h l =
+        legal-in-table sound (l .present)
         (subst₂ (λ (e u : ℕ). Legal s i (ran (vcpuAt s i) e u p (occupantAt s p) now (stateAt s i)))
         (l .domain) (l .vcpu) (ran-legal s i sound (l .present) p now h (stateAt s i) refl))

@@ -14,12 +14,12 @@ use Rattle.system.specs.Writes.{putVcpu, putOccupant}
 use Rattle.sched.specs.declared.Change.{Change}
 use Rattle.sched.specs.declared.Change.the-variants.{Refuse, Write, Move}
 use Rattle.sched.specs.Steps.{applied}
-use Rattle.sched.specs.Slots.{Seated, pcpuOf, vcpuAfter, pcpuAfter, answerOf}
+use Rattle.sched.specs.Slots.{InTable, pcpuOf, vcpuAfter, pcpuAfter, answerOf}
 
-pub seat-below : (c : Change) → Seated c → pcpuOf c < 64
-seat-below (Refuse a) h = omega arith
-seat-below (Write v) h = omega arith
-seat-below (Move v p o) h = h
+pub in-table-below : (c : Change) → InTable c → pcpuOf c < 64
+in-table-below (Refuse a) h = omega arith
+in-table-below (Write v) h = omega arith
+in-table-below (Move v p o) h = h
 
 -- the system with w stored at slot i and c at pCPU p, and what is told
 abbrev stores : System → ℕ → VirtualCpu → ℕ → PhysicalCpu → Answer → Outcome

@@ -17,10 +17,10 @@ unfoldable pub slotOf : ℕ → ℕ → ℕ → ℕ → Slot
 slotOf n k d v = cond (ltb d n) (cond (ltb v k) (At (slot d v)) BadVcpu) BadDomain
 
 -- the pCPU of a change is in the table
-abbrev pub Seated : Change → Type 0
-Seated (Refuse a) = Unit {0}
-Seated (Write v) = Unit {0}
-Seated (Move v p o) = p < 64
+abbrev pub InTable : Change → Type 0
+InTable (Refuse a) = Unit {0}
+InTable (Write v) = Unit {0}
+InTable (Move v p o) = p < 64
 
 -- the pCPU that a change is about; 0 where there is none
 abbrev pub pcpuOf : Change → ℕ

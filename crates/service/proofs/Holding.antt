@@ -9,7 +9,7 @@ use native.Mathlib.Omega.{arith}
 use lib.Dec.{lit<, ltb}
 use borrow.Author.Tests.{ltb-true, ltb-false}
 use Rattle.service.specs.Service.{limbs, held}
-use Rattle.service.specs.Laws.{below-lid}
+use Rattle.service.specs.Laws.{below-limit}
 
 within : (n m : ℕ) → 0 < m → n / m ≡ 0 → n < m
 within n m h e = let l : n < 0 * m + m = rw e at (lt-div-mul-add {a = n} h) in omega arith
@@ -20,7 +20,7 @@ beyond n m f = le-of-suc-le-suc (lt-of-not-le (λ l. f (div-eq-of-lt l)))
 -- a number of 128 bits is held whole
 kept : (n : ℕ) → n < 2 ^ 128 → limbs 4 n ≡ held n
 unfolding held
-kept n h = ap (limbs 4) (sym (below-lid n (2 ^ 128) h))
+kept n h = ap (limbs 4) (sym (below-limit n (2 ^ 128) h))
 
 pub nothing-carried : (n : ℕ) → n / 2 ^ 128 ≡ 0 → limbs 4 n ≡ held n
 nothing-carried n e = kept n (within n (2 ^ 128) (lit< tt) e)

@@ -13,8 +13,8 @@ use borrow.Author.Tests.{ltb-true, le-ltb}
 use Rattle.service.specs.Service.{value, limbs, held, moreDeserving}
 
 -- a number below m is not cut at m - 1; for any m, since of a number as long as 2 ^ 128 `omega` says nothing
-pub below-lid : (n m : ℕ) → n < m → min n (m - 1) ≡ n
-below-lid n m h = omega arith
+pub below-limit : (n m : ℕ) → n < m → min n (m - 1) ≡ n
+below-limit n m h = omega arith
 
 -- ---- steps to the laws: any number of limbs
 
@@ -37,22 +37,22 @@ value-held n = value-limbs 4 _ ∙ mod-eq-of-lt (lt-of-le-of-lt (min-le-right n 
 
 -- a number of 128 bits is held whole
 pub held-exact : (n : ℕ) → n < 2 ^ 128 → value (held n) ≡ n
-held-exact n h = value-held n ∙ below-lid n (2 ^ 128) h
+held-exact n h = value-held n ∙ below-limit n (2 ^ 128) h
 
 -- four limbs are worth less than 2 ^ 128
 pub value-below : (l : List ℕ) → length l ≡ 4 → ((i : ℕ) → getD l i 0 < 2 ^ 32) → value l < 2 ^ 128
 value-below l e h = rw e at (value-bound l h)
 
-lid-sum : (a b m : ℕ) → min (min a m + b) m ≡ min (a + b) m
-lid-sum a b m = omega arith
+limit-sum : (a b m : ℕ) → min (min a m + b) m ≡ min (a + b) m
+limit-sum a b m = omega arith
 
-held-lid : (a b : ℕ) → held (min a (2 ^ 128 - 1) + b) ≡ held (a + b)
+held-limit : (a b : ℕ) → held (min a (2 ^ 128 - 1) + b) ≡ held (a + b)
 unfolding held
-held-lid a b = ap (limbs 4) (lid-sum a b (2 ^ 128 - 1))
+held-limit a b = ap (limbs 4) (limit-sum a b (2 ^ 128 - 1))
 
 -- a sum that is held at each step is held once
 pub held-sum : (a b : ℕ) → held (value (held a) + b) ≡ held (a + b)
-held-sum a b = rw (value-held a) (held-lid a b)
+held-sum a b = rw (value-held a) (held-limit a b)
 
 pub held-sum-both : (a b : ℕ) → held (value (held a) + value (held b)) ≡ held (a + b)
 held-sum-both a b =
@@ -61,7 +61,7 @@ held-sum-both a b =
 -- the order is exact where neither product is held
 pub deserving-exact : (s w t v : ℕ) → s * v < 2 ^ 128 → t * w < 2 ^ 128 → moreDeserving s w t v ≡ ltb (s * v) (t * w)
 unfolding moreDeserving
-deserving-exact s w t v p q = rw (below-lid (s * v) (2 ^ 128) p, below-lid (t * w) (2 ^ 128) q)
+deserving-exact s w t v p q = rw (below-limit (s * v) (2 ^ 128) p, below-limit (t * w) (2 ^ 128) q)
 
 -- a service below 2 ^ 96 times a weight is never held
 pub product-below : (s v : ℕ) → s < 2 ^ 96 → v < 2 ^ 32 → s * v < 2 ^ 128

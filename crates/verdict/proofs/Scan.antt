@@ -20,7 +20,7 @@ use Rattle.verdict.specs.declared.Violation.the-variants.{RunningGhostPc
 use Rattle.verdict.specs.Violations.{runningViolation, vcpuViolation, slotViolation, heldViolation, holderViolation}
 use Rattle.verdict.specs.Violations.{pcpuViolation, orElse, earliest, isNone}
 use Rattle.verdict.specs.Sound.{fits-sizes}
-use Rattle.verdict.specs.Loops.{seat, seatedViolation, holderSlot, seatHolderViolation}
+use Rattle.verdict.specs.Loops.{pcpuIndex, vcpuViolationAt, holderSlot, holderViolationAt}
 
 -- nothing is wrong so far, nor here
 pub step : (f : ℕ → Violation) (i : ℕ) → earliest f i ≡ None → f i ≡ None → earliest f (suc i) ≡ None
@@ -46,22 +46,22 @@ stop f i (suc n) {v} e q h l =
     (λ m. rw (sym (stop f i n e q h (omega arith))) (sym (or-keeps v (f n) h)))
     (eq-or-lt-of-le l)
 
-pub seat-below : (st : RunState) → seat st < 64
-seat-below Offline = omega arith
-seat-below Runnable = omega arith
-seat-below (Running p) = omega arith
-seat-below Blocked = omega arith
+pub index-below : (st : RunState) → pcpuIndex st < 64
+index-below Offline = omega arith
+index-below Runnable = omega arith
+index-below (Running p) = omega arith
+index-below Blocked = omega arith
 
 pub holder-slot-below : (o : Occupant) → holderSlot o < 128
 holder-slot-below Idle = omega arith
 holder-slot-below (Vcpu d v) = omega arith
 
--- the pCPU of a vCPU's seat is the one it runs on, if that exists
-seated : (s : System) (d v mask : ℕ) (st : RunState)
-    → seatedViolation (pcpus s) (occupantAt s (seat st)) d v mask st ≡ vcpuViolation s d v mask st
-seated s d v mask Offline = refl
-seated s d v mask Runnable = refl
-seated s d v mask (Running p) = go (ltb p (pcpus s)) refl
+-- the index of a vCPU's pCPU is that of the one it runs on, if that exists
+stands-at : (s : System) (d v mask : ℕ) (st : RunState)
+    → vcpuViolationAt (pcpus s) (occupantAt s (pcpuIndex st)) d v mask st ≡ vcpuViolation s d v mask st
+stands-at s d v mask Offline = refl
+stands-at s d v mask Runnable = refl
+stands-at s d v mask (Running p) = go (ltb p (pcpus s)) refl
   where
     go : (t : Bool) → ltb p (pcpus s) ≡ t
         → runningViolation (pcpus s) (occupantAt s (p % 64)) d v mask p ≡ runningViolation (pcpus s) (occupantAt s p) d v mask p
@@ -69,11 +69,11 @@ seated s d v mask (Running p) = go (ltb p (pcpus s)) refl
         let q : p % 64 ≡ p = omega (arith, ltb-true p (pcpus s) e) in
         ap (λ (j : ℕ). runningViolation (pcpus s) (occupantAt s j) d v mask p) q
     go false e = rw e
-seated s d v mask Blocked = refl
+stands-at s d v mask Blocked = refl
 
 -- the vCPU of a pCPU's holder slot is its holder, if that exists
 holding : (s : System) (p : ℕ) (o : Occupant)
-    → seatHolderViolation (domains s) (vcpus s) ((vcpuAt s (holderSlot o)) .state) p o ≡ holderViolation s p o
+    → holderViolationAt (domains s) (vcpus s) ((vcpuAt s (holderSlot o)) .state) p o ≡ holderViolation s p o
 holding s p Idle = refl
 holding s p (Vcpu d v) = go (ltb d (domains s)) (ltb v (vcpus s)) refl refl
   where
@@ -93,20 +93,20 @@ module _ (s : System) (fit : fits (s .«domain_count») (s .«vcpus_per_domain»
       let z = fits-sizes (s .«domain_count») (s .«vcpus_per_domain») (s .«pcpu_count») fit in
       (omega arith, omega arith, omega arith)
 
-  pub slot-told : (i q : ℕ) (r : Violation) → i % 8 < s .«vcpus_per_domain» → q ≡ seat ((vcpuAt s i) .state)
-      → r ≡ seatedViolation (s .«pcpu_count») (occupantAt s q) (i / 8) (i % 8) ((vcpuAt s i) .affinity) ((vcpuAt s i) .state)
+  pub slot-told : (i q : ℕ) (r : Violation) → i % 8 < s .«vcpus_per_domain» → q ≡ pcpuIndex ((vcpuAt s i) .state)
+      → r ≡ vcpuViolationAt (s .«pcpu_count») (occupantAt s q) (i / 8) (i % 8) ((vcpuAt s i) .affinity) ((vcpuAt s i) .state)
       → r ≡ slotViolation s i
   unfolding slotViolation vcpuAt occupantAt
   slot-told i q r l e w =
       rw (lt-ltb (i % 8) (vcpus s) (omega (arith, counts)))
-      (rw (sym (counts .2), e) at w ∙ seated s (i / 8) (i % 8) ((vcpuAt s i) .affinity) ((vcpuAt s i) .state))
+      (rw (sym (counts .2), e) at w ∙ stands-at s (i / 8) (i % 8) ((vcpuAt s i) .affinity) ((vcpuAt s i) .state))
 
   pub slot-absent : (i : ℕ) → s .«vcpus_per_domain» ≤ i % 8 → slotViolation s i ≡ None
   unfolding slotViolation
   slot-absent i l = rw (le-ltb (i % 8) (vcpus s) (omega (arith, counts)))
 
   pub pcpu-told : (p j : ℕ) (r : Violation) → j ≡ holderSlot (occupantAt s p)
-      → r ≡ seatHolderViolation (s .«domain_count») (s .«vcpus_per_domain») ((vcpuAt s j) .state) p (occupantAt s p)
+      → r ≡ holderViolationAt (s .«domain_count») (s .«vcpus_per_domain») ((vcpuAt s j) .state) p (occupantAt s p)
       → r ≡ pcpuViolation s p
   unfolding pcpuViolation vcpuAt occupantAt
   pcpu-told p j r e w = rw (sym (counts .0), sym (counts .1), e) at w ∙ holding s p (occupantAt s p)

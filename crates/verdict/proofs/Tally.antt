@@ -38,10 +38,10 @@ module _ (s : System) where
   held p = not (isIdle (occupantAt s p))
 
   -- each Running vCPU to its pCPU
-  seated : ((i p : ℕ) → Present s i → (vcpuAt s i) .state ≡ Running p → OnPcpu s i p)
+  stands-at : ((i p : ℕ) → Present s i → (vcpuAt s i) .state ≡ Running p → OnPcpu s i p)
       → Into (runningAt s) held (domains s * 8) (pcpus s) (λ i. onto ((vcpuAt s i) .state))
   unfolding runningAt
-  seated runs =
+  stands-at runs =
       record {
         below = λ i l e. (on i l e) .exists;
         lands = λ i l e. ap (λ (o : Occupant). not (isIdle o)) ((on i l e) .back);
@@ -107,7 +107,7 @@ module _ (s : System) where
         go o q true e = is-none _ e
         go Idle q false e = ap (holderViolation s p) q
         go (Vcpu d v) q false e =
-            let less = into-lt (runningAt s) held (domains s * 8) (pcpus s) p _ (seated runs) l
+            let less = into-lt (runningAt s) held (domains s * 8) (pcpus s) p _ (stands-at runs) l
             (ap (λ (h : Occupant). not (isIdle h)) q)
             (λ i k r w. false≢true (sym e ∙ ap isNone (met i p k r w))) in
             absurd (omega arith)
@@ -161,7 +161,7 @@ tally s fit none = go (eqb (count (runningAt s) (domains s * 8)) (busyPcpus s)) 
     sound : invariantsHold s ≡ true → count (runningAt s) (domains s * 8) ≡ busyPcpus s
     sound e =
         let S = sound-iff s .0 e in
-        omega (arith, into-le _ _ _ _ _ (seated s (S .runs)), into-le _ _ _ _ _ (holding s S))
+        omega (arith, into-le _ _ _ _ _ (stands-at s (S .runs)), into-le _ _ _ _ _ (holding s S))
 
     go : (a : Bool) → eqb (count (runningAt s) (domains s * 8)) (busyPcpus s) ≡ a → (b : Bool) → invariantsHold s ≡ b → a ≡ b
     go true e b f = sym (even (eqb-true _ _ e)) ∙ f

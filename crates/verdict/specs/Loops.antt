@@ -13,26 +13,26 @@ use Rattle.verdict.specs.declared.Violation.the-variants.{None}
 use Rattle.verdict.specs.Violations.{runningViolation, heldViolation}
 
 -- where to look up the pCPU of a vCPU: always in the table, and its own pCPU if that exists
-abbrev pub seat : RunState → ℕ
-seat Offline = 0
-seat Runnable = 0
-seat (Running p) = p % 64
-seat Blocked = 0
+abbrev pub pcpuIndex : RunState → ℕ
+pcpuIndex Offline = 0
+pcpuIndex Runnable = 0
+pcpuIndex (Running p) = p % 64
+pcpuIndex Blocked = 0
 
-abbrev pub seatedViolation : ℕ → Occupant → ℕ → ℕ → ℕ → RunState → Violation
-seatedViolation n o d v mask Offline = None
-seatedViolation n o d v mask Runnable = None
-seatedViolation n o d v mask (Running p) = runningViolation n o d v mask p
-seatedViolation n o d v mask Blocked = None
+abbrev pub vcpuViolationAt : ℕ → Occupant → ℕ → ℕ → ℕ → RunState → Violation
+vcpuViolationAt n o d v mask Offline = None
+vcpuViolationAt n o d v mask Runnable = None
+vcpuViolationAt n o d v mask (Running p) = runningViolation n o d v mask p
+vcpuViolationAt n o d v mask Blocked = None
 
 -- where to look up the holder of a pCPU: always in the table, and its own slot if the holder exists
 abbrev pub holderSlot : Occupant → ℕ
 holderSlot Idle = 0
 holderSlot (Vcpu d v) = d % 16 * 8 + v % 8
 
-abbrev pub seatHolderViolation : ℕ → ℕ → RunState → ℕ → Occupant → Violation
-seatHolderViolation n k st p Idle = None
-seatHolderViolation n k st p (Vcpu d v) = heldViolation n k st p d v
+abbrev pub holderViolationAt : ℕ → ℕ → RunState → ℕ → Occupant → Violation
+holderViolationAt n k st p Idle = None
+holderViolationAt n k st p (Vcpu d v) = heldViolation n k st p d v
 
 -- the state is Running, and vCPU v is one of k
 abbrev pub runsWithin : ℕ → ℕ → RunState → Bool

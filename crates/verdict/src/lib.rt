@@ -7,7 +7,7 @@ ghost use Rattle.system.specs.Shape.{fits};
 ghost use Rattle.system.specs.Reads.{domains, pcpus};
 ghost use Rattle.verdict.specs.Violations.{names, runsOn, isNone, earliest, slotViolation, pcpuViolation};
 ghost use Rattle.verdict.specs.Violations.{orElse, firstViolation, invariantsHold};
-ghost use Rattle.verdict.specs.Loops.{seat, seatedViolation, holderSlot, seatHolderViolation, runsWithin};
+ghost use Rattle.verdict.specs.Loops.{pcpuIndex, vcpuViolationAt, holderSlot, holderViolationAt, runsWithin};
 use system::Occupant;
 use system::PhysicalCpu;
 use system::RunState;
@@ -53,8 +53,8 @@ fn or_else(a: Violation, b: Violation) -> Violation
 }
 
 // The pCPU that a vCPU runs on, as an index that is always in the table.
-fn seat_of(v: VirtualCpu) -> usize
-    ensures { λ r. ⌜ r ≡ seat (v .state) ⌝ }
+fn pcpu_index(v: VirtualCpu) -> usize
+    ensures { λ r. ⌜ r ≡ pcpuIndex (v .state) ⌝ }
 {
     let state = v.state;
     match state {
@@ -76,7 +76,7 @@ fn names_vcpu(held: PhysicalCpu, dom: usize, vcpu: usize) -> bool
     }
 }
 
-// What is wrong with vCPU dom/vcpu, where held is the pCPU of its seat.
+// What is wrong with vCPU dom/vcpu, where held stands at its pCPU's index.
 fn vcpu_violation(
     v: VirtualCpu,
     held: PhysicalCpu,
@@ -84,7 +84,7 @@ fn vcpu_violation(
     dom: usize,
     vcpu: usize,
 ) -> Violation
-    ensures { λ r. ⌜ r ≡ seatedViolation «pcpu_count» (held .occupant) dom vcpu (v .affinity) (v .state) ⌝ }
+    ensures { λ r. ⌜ r ≡ vcpuViolationAt «pcpu_count» (held .occupant) dom vcpu (v .affinity) (v .state) ⌝ }
 {
     let state = v.state;
     match state {
@@ -118,7 +118,7 @@ fn first_vcpu_violation(s: System) -> Violation
     while i < n {
         if i % 8 < k {
             let v = s.vcpus[i];
-            let q = seat_of(v);
+            let q = pcpu_index(v);
             let held = s.pcpus[q];
             let found = vcpu_violation(v, held, m, i / 8, i % 8);
             if !is_none(found) {
@@ -162,7 +162,7 @@ fn pcpu_violation(
     vcpus_per_domain: usize,
     pcpu: usize,
 ) -> Violation
-    ensures { λ r. ⌜ r ≡ seatHolderViolation «domain_count» «vcpus_per_domain» (v .state) pcpu (held .occupant) ⌝ }
+    ensures { λ r. ⌜ r ≡ holderViolationAt «domain_count» «vcpus_per_domain» (v .state) pcpu (held .occupant) ⌝ }
 {
     let o = held.occupant;
     match o {
@@ -246,7 +246,7 @@ pub fn invariants_hold(s: System) -> bool
     while i < n {
         let v = s.vcpus[i];
         if runs_within(v, i % 8, k) {
-            let q = seat_of(v);
+            let q = pcpu_index(v);
             let held = s.pcpus[q];
             if !is_none(vcpu_violation(v, held, m, i / 8, i % 8)) {
                 return false;

@@ -12,9 +12,9 @@ use Rattle.system.specs.Reads.{domains, vcpus, vcpuAt}
 use Rattle.system.specs.Writes.{putVcpu, putOccupant, Tables}
 use Rattle.verdict.specs.Violations.{invariantsHold}
 use Rattle.sched.specs.Steps.{done, applied, offlineFirst, offlineAll}
-use Rattle.sched.specs.Slots.{Seated}
+use Rattle.sched.specs.Slots.{InTable}
 use Rattle.sched.proofs.Lookup.{sound}
-use Rattle.sched.proofs.Turns.{turn, turn-seated, turned}
+use Rattle.sched.proofs.Turns.{turn, turn-in-table, turned}
 use Rattle.sched.proofs.offline_all.Statement.{statement}
 use Rattle.sched.proofs.offline_all.Tie as tie
 
@@ -77,8 +77,8 @@ seat-in c =
     let a = d .before .before .before .args in
     let T = tables (d .before .before .before) in
     let S = sound _ (hold (d .before)) in
-    subst Seated (sym (change o) ∙ c .before .change2 .given .1)
-    (turn-seated (a .t1) (l .loop .s) (a .dom) (a .now) (l .loop .u) (l .loop .inv .0) T S (domain-in d) (vcpu-in t))
+    subst InTable (sym (change o) ∙ c .before .change2 .given .1)
+    (turn-in-table (a .t1) (l .loop .s) (a .dom) (a .now) (l .loop .u) (l .loop .inv .0) T S (domain-in d) (vcpu-in t))
 
 loop-again : tie.Need-loop-again Inv-loop μ-loop
 unfolding applied putVcpu putOccupant

@@ -7,11 +7,11 @@ use borrow.Author.Tests.{not-true, not-false}
 use Rattle.system.specs.Reads.{vcpuAt, fullAffinity}
 use Rattle.verdict.specs.Violations.{invariantsHold}
 use Rattle.sched.specs.declared.Slot.{Slot}
-use Rattle.sched.specs.Slots.{Seated}
+use Rattle.sched.specs.Slots.{InTable}
 use Rattle.sched.proofs.Legal.{slot-below}
 use Rattle.sched.specs.Steps.{changed, applied, requested}
-use Rattle.sched.proofs.Lookup.{toldOf, Located, located, requested-told, changed-seated}
-use Rattle.sched.proofs.Stored.{seat-below, stored}
+use Rattle.sched.proofs.Lookup.{toldOf, Located, located, requested-told, changed-in-table}
+use Rattle.sched.proofs.Stored.{in-table-below, stored}
 use Rattle.sched.proofs.requested.Statement.{statement}
 use Rattle.sched.proofs.requested.Tie as tie
 
@@ -57,13 +57,13 @@ change :
 unfolding vcpuAt
 change c = c .changed .ensures ∙ rw (c .before .full-mask .ensures)
 
-seat-in : tie.Need-element-copy-out-c
-seat-in c =
+index-in : tie.Need-element-copy-out-c
+index-in c =
     let k = c .before .before .before .before in
     let e = k .before .before .before .before in
     let a = e .before .args in
-    let seated = changed-seated (a .t2) (hold e) (a .dom) (a .vcpu) (a .request) (at k) in
-    rw (c .pcpu-of .ensures) (seat-below (c .before .changed .result) (subst Seated (sym (change (c .before))) seated))
+    let in-table = changed-in-table (a .t2) (hold e) (a .dom) (a .vcpu) (a .request) (at k) in
+    rw (c .pcpu-of .ensures) (in-table-below (c .before .changed .result) (subst InTable (sym (change (c .before))) in-table))
 
 there : tie.Need-returns-4
 unfolding vcpuAt
@@ -93,13 +93,13 @@ requested-spec =
     (λ c κs. search needs)
     (λ c κs. search needs)
     (λ c κs. search needs)
-    (λ c. let h = seat-in c in omega arith)
-    seat-in
+    (λ c. let h = index-in c in omega arith)
+    index-in
     (λ c κs. search needs)
     (λ c. let h = in-table (c .before .before .before .before .before .before) in omega arith)
     (λ c. in-table (c .before .before .before .before .before .before))
     (λ c κs. search needs)
-    (λ c. let h = seat-in (c .before .before .before) in omega arith)
-    (λ c. seat-in (c .before .before .before))
+    (λ c. let h = index-in (c .before .before .before) in omega arith)
+    (λ c. index-in (c .before .before .before))
     (λ c κs. search needs)
     there)

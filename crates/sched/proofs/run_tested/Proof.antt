@@ -8,11 +8,11 @@ use borrow.Author.Tests.{not-true, not-false, le-ltb, leb-true, leb-false}
 use Rattle.system.specs.Reads.{pcpus, vcpuAt, occupantAt}
 use Rattle.verdict.specs.Violations.{invariantsHold}
 use Rattle.sched.specs.declared.Slot.{Slot}
-use Rattle.sched.specs.Slots.{Seated}
+use Rattle.sched.specs.Slots.{InTable}
 use Rattle.sched.proofs.Legal.{slot-below}
 use Rattle.sched.specs.Steps.{ran, applied, run}
-use Rattle.sched.proofs.Lookup.{toldOf, Located, sound, located, run-told, ran-seated}
-use Rattle.sched.proofs.Stored.{seat-below, stored}
+use Rattle.sched.proofs.Lookup.{toldOf, Located, sound, located, run-told, ran-in-table}
+use Rattle.sched.proofs.Stored.{in-table-below, stored}
 use Rattle.sched.proofs.run_tested.Statement.{statement}
 use Rattle.sched.proofs.run_tested.Tie as tie
 
@@ -70,13 +70,13 @@ change :
 unfolding vcpuAt occupantAt
 change c = c .ran .ensures
 
-seat-in : tie.Need-element-copy-out-c
-seat-in c =
+index-in : tie.Need-element-copy-out-c
+index-in c =
     let k = c .before .before .before .before in
     let e = k .before .before .before .before in
     let a = e .before .before .args in
-    let seated = ran-seated (a .t2) (hold (e .before)) (a .dom) (a .vcpu) (a .pcpu) (a .now) (pcpu-in e) (at k) in
-    rw (c .pcpu-of .ensures) (seat-below (c .before .ran .result) (subst Seated (sym (change (c .before))) seated))
+    let in-table = ran-in-table (a .t2) (hold (e .before)) (a .dom) (a .vcpu) (a .pcpu) (a .now) (pcpu-in e) (at k) in
+    rw (c .pcpu-of .ensures) (in-table-below (c .before .ran .result) (subst InTable (sym (change (c .before))) in-table))
 
 there : tie.Need-returns-5
 unfolding vcpuAt
@@ -109,13 +109,13 @@ run-tested-spec =
     (λ c. let h = pcpu-in (c .before .before .before .before .before) in omega arith)
     (λ c κs. search needs)
     (λ c κs. search needs)
-    (λ c. let h = seat-in c in omega arith)
-    seat-in
+    (λ c. let h = index-in c in omega arith)
+    index-in
     (λ c κs. search needs)
     (λ c. let h = in-table (c .before .before .before .before .before .before) in omega arith)
     (λ c. in-table (c .before .before .before .before .before .before))
     (λ c κs. search needs)
-    (λ c. let h = seat-in (c .before .before .before) in omega arith)
-    (λ c. seat-in (c .before .before .before))
+    (λ c. let h = index-in (c .before .before .before) in omega arith)
+    (λ c. index-in (c .before .before .before))
     (λ c κs. search needs)
     there)

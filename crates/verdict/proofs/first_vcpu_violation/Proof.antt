@@ -10,7 +10,7 @@ use Rattle.system.specs.Reads.{vcpuAt, occupantAt}
 use Rattle.verdict.specs.declared.Violation.the-variants.{None}
 use Rattle.verdict.specs.Violations.{slotViolation, earliest}
 use Rattle.verdict.specs.Sound.{is-none}
-use Rattle.verdict.proofs.Scan.{step, stop, counts, seat-below, slot-told, slot-absent}
+use Rattle.verdict.proofs.Scan.{step, stop, counts, index-below, slot-told, slot-absent}
 use Rattle.verdict.proofs.first_vcpu_violation.Statement.{statement}
 use Rattle.verdict.proofs.first_vcpu_violation.Tie as tie
 
@@ -24,15 +24,15 @@ loop-holds : tie.Need-loop-holds Inv-loop μ-loop
 unfolding earliest
 loop-holds c = (refl, zero-le)
 
--- the slot, and the pCPU of the vCPU's seat, are in their tables
+-- the slot, and the index of the vCPU's pCPU, are in their tables
 slot-in : tie.Need-element-copy-out-v Inv-loop μ-loop
 slot-in c = let a = c .before .before .before in omega (arith, counts (a .args .t1) (a .pre))
 
-seat-in : tie.Need-element-copy-out-held Inv-loop μ-loop
+index-in : tie.Need-element-copy-out-held Inv-loop μ-loop
 unfolding vcpuAt
-seat-in c =
+index-in c =
     let l = c .before .before .before .before in
-    rw (c .seat-of .ensures) (seat-below ((vcpuAt (l .before .args .t1) (l .loop .i)) .state))
+    rw (c .pcpu-index .ensures) (index-below ((vcpuAt (l .before .args .t1) (l .loop .i)) .state))
 
 found : tie.Need-returns Inv-loop μ-loop
 unfolding vcpuAt occupantAt
@@ -42,7 +42,7 @@ found c =
     let here = q .before .before in
     let l = here .before .before in
     let s = l .before .args .t1 in
-    let told = slot-told s (l .before .pre) (l .loop .i) _ _ (here .if1 .taken) (q .seat-of .ensures) (r .vcpu-violation .ensures) in
+    let told = slot-told s (l .before .pre) (l .loop .i) _ _ (here .if1 .taken) (q .pcpu-index .ensures) (r .vcpu-violation .ensures) in
     stop
     (slotViolation s)
     (l .loop .i)
@@ -82,8 +82,8 @@ first-vcpu-violation-spec =
     (λ c. omega (arith, slot-in c))
     slot-in
     (λ c κs. search needs)
-    (λ c. omega (arith, seat-in c))
-    seat-in
+    (λ c. omega (arith, index-in c))
+    index-in
     (λ c κs. search needs)
     (λ c κs. search needs)
     found

@@ -15,7 +15,7 @@ use Rattle.verdict.specs.declared.Violation.the-variants.{None}
 use Rattle.verdict.specs.Violations.{slotViolation, earliest, firstViolation, invariantsHold}
 use Rattle.verdict.specs.Loops.{runningAt}
 use Rattle.verdict.specs.Sound.{is-none}
-use Rattle.verdict.proofs.Scan.{step, counts, seat-below, slot-told}
+use Rattle.verdict.proofs.Scan.{step, counts, index-below, slot-told}
 use Rattle.verdict.proofs.Tally.{counted, running-told, running-present, rests, broken, tally}
 use Rattle.verdict.proofs.invariants_hold.Statement.{statement}
 use Rattle.verdict.proofs.invariants_hold.Tie as tie
@@ -41,15 +41,15 @@ fit :
     fits (s .«domain_count») (s .«vcpus_per_domain») (s .«pcpu_count») ≡ true
 fit c = sym (c .before .within-sizes .ensures) ∙ not-false _ (c .if1 .left)
 
--- the slot, and the pCPU of the vCPU's seat, are in their tables
+-- the slot, and the index of the vCPU's pCPU, are in their tables
 slot-in : tie.Need-element-copy-out-v Inv-loop μ-loop
 slot-in c = let e = c .before .before in omega (arith, counts (e .before .before .args .t1) (fit e))
 
-seat-in : tie.Need-element-copy-out-held Inv-loop μ-loop
+index-in : tie.Need-element-copy-out-held Inv-loop μ-loop
 unfolding vcpuAt
-seat-in c =
+index-in c =
     let l = c .before .before .before .before .before in
-    rw (c .seat-of .ensures) (seat-below ((vcpuAt (l .before .before .before .args .t1) (l .loop .i)) .state))
+    rw (c .pcpu-index .ensures) (index-below ((vcpuAt (l .before .before .before .args .t1) (l .loop .i)) .state))
 
 -- what is told of a vCPU, and of a Running one's violation, is what the definitions say
 runs :
@@ -67,12 +67,12 @@ told :
     c .vcpu-violation .result ≡ slotViolation (l .before .before .before .args .t1) (l .loop .i)
 unfolding vcpuAt occupantAt
 told c =
-    let seat = c .before .before in
-    let here = seat .before in
+    let index = c .before .before in
+    let here = index .before in
     let l = here .before .before .before .before in
     let s = l .before .before .before .args .t1 in
     let present = running-present s (fit (l .before)) (l .loop .i) (sym (runs (here .before)) ∙ here .if2 .taken) in
-    slot-told s (fit (l .before)) (l .loop .i) _ _ present (seat .seat-of .ensures) (c .vcpu-violation .ensures)
+    slot-told s (fit (l .before)) (l .loop .i) _ _ present (index .pcpu-index .ensures) (c .vcpu-violation .ensures)
 
 found : tie.Need-returns-2 Inv-loop μ-loop
 found c =
@@ -90,8 +90,8 @@ loop-again c =
     let i = l .loop .i in
     ⊎-elim
     (λ w.
-    let seat : tie.After-seat-of Inv-loop μ-loop = record { before = record { before = c .before; if2 = w .0 }; seat-of = w .1 } in
-    let r : tie.After-vcpu-violation Inv-loop μ-loop = record { before = record { before = seat; held = w .2 }; vcpu-violation = w .3 } in
+    let index : tie.After-pcpu-index Inv-loop μ-loop = record { before = record { before = c .before; if2 = w .0 }; pcpu-index = w .1 } in
+    let r : tie.After-vcpu-violation Inv-loop μ-loop = record { before = record { before = index; held = w .2 }; vcpu-violation = w .3 } in
     let none = sym (told r) ∙ is-none _ (sym (w .4 .ensures) ∙ not-false _ (w .5 .left)) in
     let one = counted (runningAt s) i _ (l .loop .inv .1) (sym (runs (c .before)) ∙ w .0 .taken) in
     (rw add-one (step (slotViolation s) i (l .loop .inv .0) none), rw add-one (w .6 ∙ one), omega arith, omega arith))
@@ -134,8 +134,8 @@ invariants-hold-spec =
     slot-in
     (λ c κs. search needs)
     (λ c κs. search needs)
-    (λ c. omega (arith, seat-in c))
-    seat-in
+    (λ c. omega (arith, index-in c))
+    index-in
     (λ c κs. search needs)
     (λ c κs. search needs)
     found

@@ -34,11 +34,11 @@ pub record New (full : ℕ) (v : VirtualCpu) : Type 0 where
   pub none : v .runtime ≡ 0
   pub mask : v .affinity ≡ full
 
-pub record Young (s : System) : Type 0 where
+pub record Unrun (s : System) : Type 0 where
   pub new : (i : ℕ) → Present s i → New (fullAffinity s) (vcpuAt s i)
 
-young-wrote : {s s′ : System} {i p : ℕ} {v : VirtualCpu} {o : Occupant} → Young s → Wrote s s′ i v p o → New (fullAffinity s) v → Young s′
-young-wrote {s} {s′} {i} {p} {v} Y k n = record { new = λ j h. go j h (ℕ-discrete j i) }
+unrun-wrote : {s s′ : System} {i p : ℕ} {v : VirtualCpu} {o : Occupant} → Unrun s → Wrote s s′ i v p o → New (fullAffinity s) v → Unrun s′
+unrun-wrote {s} {s′} {i} {p} {v} Y k n = record { new = λ j h. go j h (ℕ-discrete j i) }
   where
     full : fullAffinity s′ ≡ fullAffinity s
     full = ap fullMask (k .shape .pcpus)
@@ -48,16 +48,16 @@ young-wrote {s} {s′} {i} {p} {v} Y k n = record { new = λ j h. go j h (ℕ-di
     go j h (no m) = subst (New (fullAffinity s′)) (sym (k .there j m)) (subst (λ (f : ℕ). New f (vcpuAt s j)) (sym full) (Y .new j (present-back (k .shape) h)))
 
 -- a change that leaves such a record, or does nothing
-abbrev Calm : ℕ → Change → Type 0
-Calm full (Refuse a) = Unit {0}
-Calm full (Write v) = New full v
-Calm full (Move v p o) = ⊥
+abbrev StaysUnrun : ℕ → Change → Type 0
+StaysUnrun full (Refuse a) = Unit {0}
+StaysUnrun full (Write v) = New full v
+StaysUnrun full (Move v p o) = ⊥
 
-applied-young : {s : System} {i : ℕ} (c : Change) → Tables s → Young s → Present s i → Calm (fullAffinity s) c → Young ((applied s i c) .system)
+applied-unrun : {s : System} {i : ℕ} (c : Change) → Tables s → Unrun s → Present s i → StaysUnrun (fullAffinity s) c → Unrun ((applied s i c) .system)
 unfolding applied
-applied-young (Refuse a) t Y h n = Y
-applied-young {s} {i} (Write v) t Y h n = young-wrote Y (wrote-vcpu s i v 0 t (slot-below h)) n
-applied-young (Move v p o) t Y h n = absurd n
+applied-unrun (Refuse a) t Y h n = Y
+applied-unrun {s} {i} (Write v) t Y h n = unrun-wrote Y (wrote-vcpu s i v 0 t (slot-below h)) n
+applied-unrun (Move v p o) t Y h n = absurd n
 
 module _ {full : ℕ} {v : VirtualCpu} (n : New full v) where
   -- it is not Running
@@ -70,65 +70,65 @@ module _ {full : ℕ} {v : VirtualCpu} (n : New full v) where
   filled : (st : RunState) → NotRunning st → New full (record { state = st; runtime = v .runtime; «dispatched_at» = v .«dispatched_at»; affinity = full })
   filled st r = record { rests = r; none = n .none; mask = refl }
 
-  admitted-calm : (st : RunState) → v .state ≡ st → Calm full (admitted v st)
-  admitted-calm Offline e = set Runnable ready-nr
-  admitted-calm Runnable e = tt
-  admitted-calm (Running p) e = tt
-  admitted-calm Blocked e = tt
+  admitted-stays-unrun : (st : RunState) → v .state ≡ st → StaysUnrun full (admitted v st)
+  admitted-stays-unrun Offline e = set Runnable ready-nr
+  admitted-stays-unrun Runnable e = tt
+  admitted-stays-unrun (Running p) e = tt
+  admitted-stays-unrun Blocked e = tt
 
-  blocked-calm : (now : ℕ) (st : RunState) → v .state ≡ st → Calm full (blocked v now st)
-  blocked-calm now Offline e = tt
-  blocked-calm now Runnable e = set Blocked blocked-nr
-  blocked-calm now (Running p) e = still e
-  blocked-calm now Blocked e = tt
+  blocked-stays-unrun : (now : ℕ) (st : RunState) → v .state ≡ st → StaysUnrun full (blocked v now st)
+  blocked-stays-unrun now Offline e = tt
+  blocked-stays-unrun now Runnable e = set Blocked blocked-nr
+  blocked-stays-unrun now (Running p) e = still e
+  blocked-stays-unrun now Blocked e = tt
 
-  woken-calm : (st : RunState) → v .state ≡ st → Calm full (woken v st)
-  woken-calm Offline e = tt
-  woken-calm Runnable e = tt
-  woken-calm (Running p) e = tt
-  woken-calm Blocked e = set Runnable ready-nr
+  woken-stays-unrun : (st : RunState) → v .state ≡ st → StaysUnrun full (woken v st)
+  woken-stays-unrun Offline e = tt
+  woken-stays-unrun Runnable e = tt
+  woken-stays-unrun (Running p) e = tt
+  woken-stays-unrun Blocked e = set Runnable ready-nr
 
-  offlined-calm : (now : ℕ) (st : RunState) → v .state ≡ st → Calm full (offlined v full now st)
-  offlined-calm now Offline e = tt
-  offlined-calm now Runnable e = filled Offline off-nr
-  offlined-calm now (Running p) e = still e
-  offlined-calm now Blocked e = filled Offline off-nr
+  offlined-stays-unrun : (now : ℕ) (st : RunState) → v .state ≡ st → StaysUnrun full (offlined v full now st)
+  offlined-stays-unrun now Offline e = tt
+  offlined-stays-unrun now Runnable e = filled Offline off-nr
+  offlined-stays-unrun now (Running p) e = still e
+  offlined-stays-unrun now Blocked e = filled Offline off-nr
 
-module _ (s : System) (t : Tables s) (S : Sound s) (Y : Young s) where
-  calm-young : (d v : ℕ) (q : Request) → (Present s (slot d v) → Calm (fullAffinity s) (changed q (fullAffinity s) (vcpuAt s (slot d v))))
-      → Young ((requested s d v q) .system)
-  calm-young d v q f = requested-case s Young Y d v q (λ h. applied-young _ t Y h (f h))
+module _ (s : System) (t : Tables s) (S : Sound s) (Y : Unrun s) where
+  request-unrun : (d v : ℕ) (q : Request) → (Present s (slot d v) → StaysUnrun (fullAffinity s) (changed q (fullAffinity s) (vcpuAt s (slot d v))))
+      → Unrun ((requested s d v q) .system)
+  request-unrun d v q f = requested-case s Unrun Y d v q (λ h. applied-unrun _ t Y h (f h))
 
-  pub admit-young : (d v : ℕ) → Young ((requested s d v Request.Admit) .system)
-  admit-young d v = calm-young d v Request.Admit (λ h. admitted-calm (Y .new (slot d v) h) _ refl)
+  pub admit-unrun : (d v : ℕ) → Unrun ((requested s d v Request.Admit) .system)
+  admit-unrun d v = request-unrun d v Request.Admit (λ h. admitted-stays-unrun (Y .new (slot d v) h) _ refl)
 
-  pub block-young : (d v now : ℕ) → Young ((requested s d v (Request.Block now)) .system)
-  block-young d v now = calm-young d v (Request.Block now) (λ h. blocked-calm (Y .new (slot d v) h) now _ refl)
+  pub block-unrun : (d v now : ℕ) → Unrun ((requested s d v (Request.Block now)) .system)
+  block-unrun d v now = request-unrun d v (Request.Block now) (λ h. blocked-stays-unrun (Y .new (slot d v) h) now _ refl)
 
-  pub wake-young : (d v : ℕ) → Young ((requested s d v Request.Wake) .system)
-  wake-young d v = calm-young d v Request.Wake (λ h. woken-calm (Y .new (slot d v) h) _ refl)
+  pub wake-unrun : (d v : ℕ) → Unrun ((requested s d v Request.Wake) .system)
+  wake-unrun d v = request-unrun d v Request.Wake (λ h. woken-stays-unrun (Y .new (slot d v) h) _ refl)
 
-  pub offline-young : (d v now : ℕ) → Young ((requested s d v (Request.Offline now)) .system)
-  offline-young d v now = calm-young d v (Request.Offline now) (λ h. offlined-calm (Y .new (slot d v) h) now _ refl)
+  pub offline-unrun : (d v now : ℕ) → Unrun ((requested s d v (Request.Offline now)) .system)
+  offline-unrun d v now = request-unrun d v (Request.Offline now) (λ h. offlined-stays-unrun (Y .new (slot d v) h) now _ refl)
 
-  first-young : (d now k : ℕ) → d < domains s → k ≤ vcpus s → Young (offlineFirst s d now k)
+  first-unrun : (d now k : ℕ) → d < domains s → k ≤ vcpus s → Unrun (offlineFirst s d now k)
   unfolding offlineFirst
-  first-young d now zero a l = Y
-  first-young d now (suc k) a l =
+  first-unrun d now zero a l = Y
+  first-unrun d now (suc k) a l =
       let u = offlineFirst s d now k in
       let m = first-keeps s S t d now k a (omega arith) in
       let h : Present u (slot d k) = present-on {i = slot d k} (m .shape) (record { domain = omega arith; vcpu = omega arith }) in
-      let y = first-young d now k a (omega arith) in
+      let y = first-unrun d now k a (omega arith) in
       let full : fullAffinity u ≡ fullAffinity s = ap fullMask (m .shape .pcpus) in
-      applied-young _ (m .shape .tables t) y h
-      (subst (λ (f : ℕ). Calm (fullAffinity u) (changed (Request.Offline now) f (vcpuAt u (slot d k)))) full (offlined-calm (y .new (slot d k) h) now _ refl))
+      applied-unrun _ (m .shape .tables t) y h
+      (subst (λ (f : ℕ). StaysUnrun (fullAffinity u) (changed (Request.Offline now) f (vcpuAt u (slot d k)))) full (offlined-stays-unrun (y .new (slot d k) h) now _ refl))
 
-  pub offline-all-young : (d now : ℕ) → Young ((offlineAll s d now) .system)
-  offline-all-young d now = offline-all-case s Young Y d now (λ a. first-young d now (vcpus s) a (omega arith))
+  pub offline-all-unrun : (d now : ℕ) → Unrun ((offlineAll s d now) .system)
+  offline-all-unrun d now = offline-all-case s Unrun Y d now (λ a. first-unrun d now (vcpus s) a (omega arith))
 
   -- nobody lags before anybody has run, at any reading
-  pub young-lag : (w : ℕ → ℕ) (lim now : ℕ) → Lag w lim s now
-  young-lag w lim now =
+  pub unrun-lag : (w : ℕ → ℕ) (lim now : ℕ) → Lag w lim s now
+  unrun-lag w lim now =
       record {
         lag = λ i j hi hj h e. lag′ i j hi (stateAt s i) refl h;
         base = λ i j p hi hj h e. absurd (Y .new i hi .rests p h);

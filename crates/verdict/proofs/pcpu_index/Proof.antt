@@ -1,10 +1,10 @@
--- `verdict::seat_of` meets its contract. Assumes nothing.
+-- `verdict::pcpu_index` meets its contract. Assumes nothing.
 use borrow.Author.Needs.{needs}
-use Rattle.verdict.proofs.seat_of.Statement.{statement}
-use Rattle.verdict.proofs.seat_of.Tie as tie
+use Rattle.verdict.proofs.pcpu_index.Statement.{statement}
+use Rattle.verdict.proofs.pcpu_index.Tie as tie
 
-pub seat-of-spec : {M : Type 1} → statement M
-seat-of-spec =
+pub pcpu-index-spec : {M : Type 1} → statement M
+pcpu-index-spec =
     tie.close
     (tie.spec
     (λ c. search needs)
