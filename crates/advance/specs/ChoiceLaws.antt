@@ -14,6 +14,7 @@ use Rattle.verdict.specs.Sound.{Present}
 use Rattle.sched.specs.CanRun.{stateAt, admits, CanRun}
 use Rattle.moves.specs.declared.Choice.the-variants.{Run, Preempt, Rest}
 use Rattle.moves.specs.Scan.{Ranks}
+use Rattle.moves.specs.Decide.{placement}
 use Rattle.moves.specs.DecideLaws.{Fits, Beats, IsRun, run-fits, run-found, preempt-beaten, rest-unbeaten, pick-least, pick-earliest}
 use Rattle.moves.specs.DecideLaws.{victim-worst, victim-earliest}
 use Rattle.policy.specs.declared.Scheduler.{Scheduler}
@@ -159,16 +160,17 @@ module _ (s : System) (π : Scheduler) (now : ℕ) where
   -- where those that may be dispatched are ranked, none of them deserves it more than who is; the earliest is, of those that
   -- deserve it alike
   module _ (R : Ranks (Placeable s) (deserves s π now)) (i p j q : ℕ) (e : choice s π now ≡ Run i p) (c : CanRun s j q) where
+    placeable : (k : ℕ) → k < slots s → Fits (standings s π now) k (placement (standings s π now) k) → Placeable s k
+    placeable k l f = record { onto = _; can = fits-can k _ l f }
+
     pub choice-least : deserves s π now j i ≡ false
     unfolding choice standings
     choice-least =
-        pick-least (standings s π now) (slots s) R (λ k l f. record { onto = _; can = fits-can k _ l f }) i p j q e (present-is (c .present) .0)
-        (can-fits j q c)
+        pick-least (standings s π now) (slots s) R placeable i p j q e (present-is (c .present) .0) (can-fits j q c)
 
     pub choice-earliest : j < i → deserves s π now i j ≡ true
     unfolding choice standings
-    choice-earliest l =
-        pick-earliest (standings s π now) (slots s) R (λ k l f. record { onto = _; can = fits-can k _ l f }) i p j q e l (can-fits j q c)
+    choice-earliest l = pick-earliest (standings s π now) (slots s) R placeable i p j q e l (can-fits j q c)
 
   -- where those that may be preempted are ranked, none of them deserves its pCPU less than who is; the earliest is, of those
   -- that deserve it alike

@@ -3,6 +3,7 @@ use Prim.Native.Nat.{ℕ}
 use mathlib.Core.Bool.{cond}
 use lib.ListN.{length}
 use Rattle.system.specs.declared.System.{System}
+use Rattle.system.specs.declared.Answer.the-variants.{Done, TooLarge}
 use Rattle.system.specs.Answers.{told, Outcome}
 use Rattle.system.specs.Shape.{fits}
 use Rattle.policy.specs.declared.Scheduler.{Scheduler}
@@ -38,5 +39,5 @@ handedAfter r = record { number = r .number; host = record { system = r .system;
 -- a host with a policy of the same shape; one above the sizes is told 7, beside the host of nothing
 abbrev pub built : ℕ → ℕ → ℕ → ℕ → Handed
 built d v p q =
-    cond (fits d v p) (record { number = 0; host = freshHost d v p d v q; count = 0 })
-    (record { number = 7; host = freshHost 0 0 0 0 0 0; count = 0 })
+    cond (fits d v p) (record { number = told Done; host = freshHost d v p d v q; count = 0 })
+    (record { number = told TooLarge; host = freshHost 0 0 0 0 0 0; count = 0 })

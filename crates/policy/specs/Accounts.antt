@@ -5,6 +5,7 @@ use mathlib.Core.List.{List, [], _∷_, map}
 use lib.Dec.{ltb, leb}
 use lib.ListN.{getD, set, replicate}
 use Rattle.service.specs.Service.{value}
+use Rattle.system.specs.declared.Answer.the-variants.{Done, TooLarge}
 use Rattle.system.specs.Answers.{told}
 use Rattle.system.specs.Reads.{slot}
 use Rattle.policy.specs.declared.Account.{Account}
@@ -115,4 +116,6 @@ policyOutcome r = record { number = told (r .answer); policy = r .policy }
 
 -- a shape above the sizes is told 7, beside the policy of no domains and vCPUs
 abbrev pub builtPolicy : ℕ → ℕ → ℕ → PolicyOutcome
-builtPolicy d v q = cond (leb d 16 && leb v 8) (record { number = 0; policy = freshPolicy d v q }) (record { number = 7; policy = freshPolicy 0 0 0 })
+builtPolicy d v q =
+    cond (leb d 16 && leb v 8) (record { number = told Done; policy = freshPolicy d v q })
+    (record { number = told TooLarge; policy = freshPolicy 0 0 0 })

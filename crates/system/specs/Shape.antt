@@ -9,7 +9,8 @@ use Rattle.system.specs.declared.VirtualCpu.{VirtualCpu}
 use Rattle.system.specs.declared.Occupant.the-variants.{Idle}
 use Rattle.system.specs.declared.PhysicalCpu.{PhysicalCpu}
 use Rattle.system.specs.declared.System.{System}
-use Rattle.system.specs.Answers.{Outcome}
+use Rattle.system.specs.declared.Answer.the-variants.{Done, TooLarge}
+use Rattle.system.specs.Answers.{told, Outcome}
 use Rattle.system.specs.Records.{withMask}
 
 -- what every vCPU record starts from
@@ -41,4 +42,5 @@ fresh d v p =
 
 -- a shape above the sizes is told 7, beside the system of no domains, vCPUs and pCPUs
 abbrev pub built : ℕ → ℕ → ℕ → Outcome
-built d v p = cond (fits d v p) (record { number = 0; system = fresh d v p }) (record { number = 7; system = fresh 0 0 0 })
+built d v p =
+    cond (fits d v p) (record { number = told Done; system = fresh d v p }) (record { number = told TooLarge; system = fresh 0 0 0 })
