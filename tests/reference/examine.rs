@@ -9,8 +9,29 @@ use crate::script::{told, unless_overflow, Host, Record, Replay, Told, BAD_SCRIP
 pub const OFFLINE_ALL: u16 = 11;
 pub const BUILD_APART: u16 = 12;
 
-/// Four lines of eight numbers.
-pub type Reads = [[u64; 8]; 4];
+/// What is read at a record's ids, and what `next` decides at its value as a clock.
+pub struct Reads {
+    pub state: Option<RunState>,
+    pub running: bool,
+    pub ran: Option<u64>,
+    pub since: Option<u64>,
+    pub mask: Option<u64>,
+    pub permits: bool,
+    pub weight: u32,
+    /// How many vCPUs the domain has.
+    pub vcpus: usize,
+    pub full_mask: u64,
+    /// The sum of the domain's run times: upstream has no usage.
+    pub used: u128,
+    pub domains: usize,
+    pub pcpus: usize,
+    pub busy: usize,
+    pub slice: u64,
+    pub sound: bool,
+    pub holder: Option<(u16, u32)>,
+    pub violation: Option<Violation>,
+    pub next: Decision,
+}
 
 /// What a record is told, and what can then be read at its ids; no reads without a host.
 pub struct Answered {
@@ -37,9 +58,9 @@ pub fn examine(replay: &mut Replay, bytes: &[u8]) -> Option<Answered> {
 
 pub fn write(out: &mut Vec<u8>, count: u64, answered: &Answered) {
     answer(out, count, answered.told);
-    for line in answered.reads.iter().flatten() {
+    for line in answered.reads.iter().flat_map(Reads::lines) {
         out.push(b' ');
-        numbers(out, line);
+        numbers(out, &line);
     }
 }
 
@@ -50,7 +71,7 @@ fn offline_all(replay: &mut Replay, r: Record) -> Told {
 }
 
 /// The policy's domains, its vCPUs and the slice.
-fn policy_shape(value: u64) -> [u64; 3] {
+pub fn policy_shape(value: u64) -> [u64; 3] {
     [value >> 56, value >> 48 & 0xff, value & ((1 << 48) - 1)]
 }
 
@@ -68,39 +89,58 @@ fn build_apart(replay: &mut Replay, r: Record) -> Told {
 }
 
 fn reads(host: &Host, r: Record) -> Option<Reads> {
-    Some([vcpu(host, r), domain(host, r), whole(host, r), moves(host, r)?])
-}
-
-fn vcpu(host: &Host, r: Record) -> [u64; 8] {
     let (s, d, v) = (&host.system, r.domain, r.vcpu);
-    let [ran, since, mask] = [s.runtime(d, v), s.on_cpu_since(d, v), s.affinity_of(d, v)].map(maybe);
-    let running = u64::from(s.is_running(d, v));
-    [state(s.state_of(d, v)), running, ran[0], ran[1], since[0], since[1], mask[0], mask[1]]
+    Some(Reads {
+        state: s.state_of(d, v),
+        running: s.is_running(d, v),
+        ran: s.runtime(d, v),
+        since: s.on_cpu_since(d, v),
+        mask: s.affinity_of(d, v),
+        permits: s.affinity_permits(d, v, r.third),
+        weight: host.policy.weight_of(d, v),
+        vcpus: s.vcpu_count(d),
+        full_mask: s.full_affinity(),
+        used: (0..s.vcpu_count(d) as u32).map(|v| u128::from(s.runtime(d, v).unwrap())).sum(),
+        domains: s.domain_count(),
+        pcpus: s.pcpu_count(),
+        busy: s.busy_pcpus(),
+        slice: host.policy.quantum(),
+        sound: s.invariants_hold(),
+        holder: s.occupant(r.third),
+        violation: s.first_violation(),
+        next: unless_overflow(|| host.policy.next(s, r.value))?,
+    })
 }
 
-fn domain(host: &Host, r: Record) -> [u64; 8] {
-    let (s, d, v) = (&host.system, r.domain, r.vcpu);
-    // upstream has no usage: the sum of its run times, as four limbs
-    let used: u128 = (0..s.vcpu_count(d) as u32).map(|v| u128::from(s.runtime(d, v).unwrap())).sum();
-    let limb = |i: u32| (used >> (32 * i)) as u64 & 0xffff_ffff;
-    let permits = u64::from(s.affinity_permits(d, v, r.third));
-    let (weight, count) = (u64::from(host.policy.weight_of(d, v)), s.vcpu_count(d) as u64);
-    [permits, weight, count, s.full_affinity(), limb(0), limb(1), limb(2), limb(3)]
-}
+impl Reads {
+    /// As the program writes them.
+    fn lines(&self) -> [[u64; 8]; 4] {
+        [self.vcpu(), self.domain(), self.whole(), self.decided()]
+    }
 
-fn whole(host: &Host, r: Record) -> [u64; 8] {
-    let s = &host.system;
-    let holder = s.occupant(r.third).map_or([0; 3], |(d, v)| [1, u64::from(d), u64::from(v)]);
-    let counts = [s.domain_count(), s.pcpu_count(), s.busy_pcpus()].map(|n| n as u64);
-    let sound = u64::from(s.invariants_hold());
-    [counts[0], counts[1], counts[2], host.policy.quantum(), sound, holder[0], holder[1], holder[2]]
-}
+    fn vcpu(&self) -> [u64; 8] {
+        let [ran, since, mask] = [self.ran, self.since, self.mask].map(maybe);
+        [state(self.state), u64::from(self.running), ran[0], ran[1], since[0], since[1], mask[0], mask[1]]
+    }
 
-fn moves(host: &Host, r: Record) -> Option<[u64; 8]> {
-    let wrong = violation(host.system.first_violation());
-    let chosen = decision(unless_overflow(|| host.policy.next(&host.system, r.value))?);
-    // upstream's `next` is told nothing: it refuses no system
-    Some([wrong[0], wrong[1], wrong[2], u64::from(DONE), chosen[0], chosen[1], chosen[2], chosen[3]])
+    fn domain(&self) -> [u64; 8] {
+        // the program writes a usage as four limbs
+        let limb = |i: u32| (self.used >> (32 * i)) as u64 & 0xffff_ffff;
+        let (permits, weight) = (u64::from(self.permits), u64::from(self.weight));
+        [permits, weight, self.vcpus as u64, self.full_mask, limb(0), limb(1), limb(2), limb(3)]
+    }
+
+    fn whole(&self) -> [u64; 8] {
+        let holder = self.holder.map_or([0; 3], |(d, v)| [1, u64::from(d), u64::from(v)]);
+        let [domains, pcpus, busy] = [self.domains, self.pcpus, self.busy].map(|n| n as u64);
+        [domains, pcpus, busy, self.slice, u64::from(self.sound), holder[0], holder[1], holder[2]]
+    }
+
+    fn decided(&self) -> [u64; 8] {
+        let (wrong, next) = (violation(self.violation), decision(self.next));
+        // upstream's `next` is told nothing: it refuses no system
+        [wrong[0], wrong[1], wrong[2], u64::from(DONE), next[0], next[1], next[2], next[3]]
+    }
 }
 
 fn maybe(n: Option<u64>) -> [u64; 2] {

@@ -10,13 +10,15 @@
 //!                                  random scripts through upstream and the two programs; a difference is
 //!                                  left in FOLDER, as `records` and upstream's `lines`
 //!   reference reads SEED RECORDS SECONDS EXAMINE FOLDER
-//!                                  random records of `examine` through upstream and the program
+//!                                  random records of `examine` through upstream and the program, in the same way
 //!   reference reached              whether the records of standard input reach every outcome of every read
 extern crate alloc;
-mod compare;
+mod calls;
+mod comparison;
 mod examine;
 mod generate;
 mod lines;
+mod outcomes;
 mod policy;
 mod program;
 mod reads;
@@ -25,6 +27,7 @@ mod script;
 mod shrink;
 mod tally;
 
+use comparison::Comparison;
 use script::{Replay, RECORD};
 use std::io::{BufReader, Read, Write};
 use std::process::ExitCode;
@@ -43,10 +46,10 @@ fn main() -> ExitCode {
             print(&generate::examined(number(seed), number(calls) as usize, true, u64::MAX).0)
         }
         ["compare", seed, calls, seconds, trace, replay, folder] => {
-            compare::compare(number(seed), number(calls), number(seconds), [trace, replay], folder)
+            calls::compare(&comparison([seed, calls, seconds], &[trace, replay], folder))
         }
-        ["reads", seed, records, seconds, program, folder] => {
-            reads::compare(number(seed), number(records), number(seconds), program, folder)
+        ["reads", seed, records, seconds, examine, folder] => {
+            reads::compare(&comparison([seed, records, seconds], &[examine], folder))
         }
         ["reached"] => {
             let mut script = Vec::new();
@@ -64,6 +67,11 @@ fn main() -> ExitCode {
 
 fn number(word: &str) -> u64 {
     word.parse().unwrap_or_else(|_| panic!("not a number: {word}"))
+}
+
+fn comparison<'a>(numbers: [&str; 3], programs: &'a [&'a str], folder: &'a str) -> Comparison<'a> {
+    let [seed, records, seconds] = numbers.map(number);
+    Comparison { seed, records, seconds, programs, folder }
 }
 
 fn print(script: &[u8]) -> ExitCode {

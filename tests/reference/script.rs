@@ -4,9 +4,20 @@ use crate::sched::{SchedError, System};
 use std::panic::{catch_unwind, resume_unwind, AssertUnwindSafe};
 
 pub const RECORD: usize = 20;
+/// Kinds of a script are numbers up to this.
+pub const LAST_KIND: u16 = 10;
+// the answers; 8 is Unsound, which upstream does not have
 pub const DONE: u8 = 0;
+pub const BAD_DOMAIN: u8 = 1;
+pub const BAD_VCPU: u8 = 2;
+pub const BAD_PCPU: u8 = 3;
+pub const WRONG_STATE: u8 = 4;
+pub const PCPU_BUSY: u8 = 5;
+pub const NOT_AFFINE: u8 = 6;
 pub const TOO_LARGE: u8 = 7;
 pub const BAD_SCRIPT: u8 = 9;
+/// Answers are numbers below this.
+pub const ANSWERS: usize = 10;
 pub const SIZES: [u64; 3] = [16, 8, 64];
 
 #[derive(Clone, Copy, Default)]
@@ -83,7 +94,7 @@ impl Replay {
     pub fn tell(&mut self, bytes: &[u8]) -> Option<Told> {
         match Record::read(bytes) {
             Some(r) if r.kind == 0 => Some(self.build(r)),
-            Some(r) if r.kind <= 10 => self.call(r),
+            Some(r) if r.kind <= LAST_KIND => self.call(r),
             _ => Some(told(BAD_SCRIPT)),
         }
     }
@@ -143,12 +154,12 @@ pub fn told(answer: u8) -> Told {
 fn number(result: Result<(), SchedError>) -> u8 {
     match result {
         Ok(()) => DONE,
-        Err(SchedError::BadDomain) => 1,
-        Err(SchedError::BadVcpu) => 2,
-        Err(SchedError::BadPcpu) => 3,
-        Err(SchedError::WrongState) => 4,
-        Err(SchedError::PcpuBusy) => 5,
-        Err(SchedError::NotAffine) => 6,
+        Err(SchedError::BadDomain) => BAD_DOMAIN,
+        Err(SchedError::BadVcpu) => BAD_VCPU,
+        Err(SchedError::BadPcpu) => BAD_PCPU,
+        Err(SchedError::WrongState) => WRONG_STATE,
+        Err(SchedError::PcpuBusy) => PCPU_BUSY,
+        Err(SchedError::NotAffine) => NOT_AFFINE,
     }
 }
 

@@ -1,69 +1,72 @@
-//! What a comparison has reached.
-use crate::script::{Record, Told};
-use std::process::ExitCode;
+//! How often records were told what, kind by kind.
+use crate::script::{Record, ANSWERS, LAST_KIND};
+use crate::script::{BAD_DOMAIN, BAD_PCPU, BAD_SCRIPT, BAD_VCPU, DONE, NOT_AFFINE, PCPU_BUSY, TOO_LARGE, WRONG_STATE};
+use Of::{CutOff, Kind, KindAbove};
 
-/// From so many calls on, everything that scripts can be told has to have been told.
-const ENOUGH: u64 = 100_000;
-/// Each kind with what it can be told; then records of no kind.
-const TOLD: [(&str, &[usize]); 13] = [
-    ("build", &[0, 7]),
-    ("admit", &[0, 1, 2, 4, 9]),
-    ("run", &[0, 1, 2, 3, 4, 5, 6, 9]),
-    ("preempt", &[0, 1, 2, 4, 9]),
-    ("block", &[0, 1, 2, 4, 9]),
-    ("wake", &[0, 1, 2, 4, 9]),
-    ("offline", &[0, 1, 2, 4, 9]),
-    ("mask", &[0, 1, 2, 6, 9]),
-    ("weight", &[0, 9]),
-    ("advance", &[0, 9]),
-    ("boost", &[0, 9]),
-    ("above 10", &[9]),
-    ("cut off", &[9]),
+/// The records that a row counts.
+enum Of {
+    Kind(u16),
+    KindAbove(u16),
+    CutOff,
+}
+
+impl Of {
+    fn counts(&self, record: Option<Record>) -> bool {
+        match (self, record) {
+            (Kind(kind), Some(r)) => r.kind == *kind,
+            (KindAbove(kind), Some(r)) => r.kind > *kind,
+            (CutOff, None) => true,
+            _ => false,
+        }
+    }
+}
+
+const TRANSITION: &[u8] = &[DONE, BAD_DOMAIN, BAD_VCPU, WRONG_STATE, BAD_SCRIPT];
+const RUN: &[u8] = &[DONE, BAD_DOMAIN, BAD_VCPU, BAD_PCPU, WRONG_STATE, PCPU_BUSY, NOT_AFFINE, BAD_SCRIPT];
+
+/// Each row's name, the records that it counts, and what they can be told.
+const ROWS: &[(&str, Of, &[u8])] = &[
+    ("build", Kind(0), &[DONE, TOO_LARGE]),
+    ("admit", Kind(1), TRANSITION),
+    ("run", Kind(2), RUN),
+    ("preempt", Kind(3), TRANSITION),
+    ("block", Kind(4), TRANSITION),
+    ("wake", Kind(5), TRANSITION),
+    ("offline", Kind(6), TRANSITION),
+    ("mask", Kind(7), &[DONE, BAD_DOMAIN, BAD_VCPU, NOT_AFFINE, BAD_SCRIPT]),
+    ("weight", Kind(8), &[DONE, BAD_SCRIPT]),
+    ("advance", Kind(9), &[DONE, BAD_SCRIPT]),
+    ("boost", Kind(10), &[DONE, BAD_SCRIPT]),
+    ("above 10", KindAbove(LAST_KIND), &[BAD_SCRIPT]),
+    ("cut off", CutOff, &[BAD_SCRIPT]),
 ];
 
 #[derive(Default)]
 pub struct Tally {
-    pub scripts: u64,
-    pub calls: u64,
-    pub states: u64,
-    pub overflows: u64,
-    moves: u64,
-    told: [[u64; 10]; 13],
+    told: [[u64; ANSWERS]; ROWS.len()],
 }
 
 impl Tally {
-    pub fn note(&mut self, record: &[u8], told: Told) {
-        let row = Record::read(record).map_or(12, |r| usize::from(r.kind.min(11)));
-        self.told[row][usize::from(told.answer)] += 1;
-        self.moves += u64::from(told.moves);
-        self.calls += 1;
-    }
-
-    pub fn print(&self, seconds: f64) {
-        let Tally { scripts, calls, moves, states, overflows, .. } = self;
-        println!("{scripts} scripts, {calls} calls, {moves} moves, {states} states compared");
-        println!("{overflows} calls left out because upstream's own sum overflows there");
-        println!("{seconds:.1} s, {:.0} calls a second", *calls as f64 / seconds);
-        let row = |ns: &mut dyn Iterator<Item = u64>| ns.map(|n| format!("{n:>8}")).collect::<String>();
-        println!("{:>9} {}", "told", row(&mut (0..10)));
-        for ((name, _), told) in TOLD.iter().zip(&self.told) {
-            println!("{name:>9} {}", row(&mut told.iter().copied()));
+    pub fn note(&mut self, record: Option<Record>, answer: u8) {
+        for ((_, of, _), told) in ROWS.iter().zip(&mut self.told) {
+            told[usize::from(answer)] += u64::from(of.counts(record));
         }
     }
 
-    pub fn verdict(&self) -> ExitCode {
-        let rows = TOLD.iter().zip(&self.told);
-        let cells = rows.flat_map(|((name, can), told)| can.iter().map(move |a| (name, a, told[*a])));
-        let mut missing: Vec<String> =
-            cells.filter(|(_, _, n)| *n == 0).map(|(name, a, _)| format!("{name} told {a}")).collect();
-        if self.moves == 0 {
-            missing.push("a move".into());
+    pub fn print(&self) {
+        println!("{:>9} {}", "told", columns(0..ANSWERS as u64));
+        for ((name, ..), told) in ROWS.iter().zip(&self.told) {
+            println!("{name:>9} {}", columns(told.iter().copied()));
         }
-        if self.calls >= ENOUGH && !missing.is_empty() {
-            println!("FAILED: not reached: {}", missing.join(", "));
-            return ExitCode::FAILURE;
-        }
-        println!("no difference");
-        ExitCode::SUCCESS
     }
+
+    pub fn unreached(&self) -> Vec<String> {
+        let rows = ROWS.iter().zip(&self.told);
+        let cells = rows.flat_map(|((name, _, can), told)| can.iter().map(move |a| (name, a, told[usize::from(*a)])));
+        cells.filter(|(_, _, n)| *n == 0).map(|(name, answer, _)| format!("{name} told {answer}")).collect()
+    }
+}
+
+fn columns(ns: impl Iterator<Item = u64>) -> String {
+    ns.map(|n| format!("{n:>8}")).collect()
 }

@@ -1,4 +1,4 @@
-"""What the stored sample is made of: texts, with a random part before the last of them."""
+"""The stored sample: the texts that it is made of, with a random part before the last of them, and its files."""
 import pathlib
 import subprocess
 
@@ -11,8 +11,12 @@ HELD = "tests/sample/held.txt"
 PROGRAMS = ["replay", "trace"]
 
 
+def output(command, data=b""):
+    return subprocess.run(command, input=data, stdout=subprocess.PIPE, check=True).stdout
+
+
 def encoded(part):
-    return subprocess.run([ROOT / "tools" / "script", "encode", ROOT / part], check=True, stdout=subprocess.PIPE).stdout
+    return output([ROOT / "tools" / "script", "encode", ROOT / part])
 
 
 def before():
@@ -21,3 +25,18 @@ def before():
 
 def stored(program, name):
     return ROOT / "crates" / program / name
+
+
+def stale(who, files):
+    """Names the stored files that do not hold this; whether there are any."""
+    paths = [path for path, data in files.items() if not path.is_file() or path.read_bytes() != data]
+    for path in paths:
+        print(f"{who}: {path.relative_to(ROOT)} is not what upstream gives")
+    return bool(paths)
+
+
+def store(files):
+    for path, data in files.items():
+        path.parent.mkdir(parents=True, exist_ok=True)
+        path.write_bytes(data)
+        print(f"{path.relative_to(ROOT)}: {len(data)} bytes")

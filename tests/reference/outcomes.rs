@@ -1,0 +1,137 @@
+//! What a read, or a kind that only `examine` has, can answer, and how often each was seen.
+use crate::examine::{Reads, BUILD_APART, OFFLINE_ALL};
+use crate::policy::Decision;
+use crate::sched::RunState;
+use crate::script::{Host, Record, Told, BAD_SCRIPT, DONE, TOO_LARGE};
+use When::{NoHost, Read};
+
+/// The policy's domains and vCPUs, where they are not the system's.
+pub type Apart = Option<[u64; 2]>;
+
+/// A record, what it was told, and what was read after it.
+pub struct Seen<'a> {
+    pub record: Record,
+    pub told: Told,
+    /// Whether a vCPU of the record's domain ran before it.
+    pub ran: bool,
+    pub apart: Apart,
+    pub host: Option<&'a Host>,
+    pub reads: Option<&'a Reads>,
+}
+
+/// When an outcome is seen: in the reads, or in a record that finds no host.
+enum When {
+    Read(fn(&Reads, &Seen) -> bool),
+    NoHost(fn(&Seen) -> bool),
+}
+
+const OUTCOMES: &[(&str, When)] = &[
+    ("vCPU out of range", Read(|read, _| read.state.is_none())),
+    ("Offline", Read(|read, _| read.state == Some(RunState::Offline))),
+    ("Runnable", Read(|read, _| read.state == Some(RunState::Runnable))),
+    ("Blocked", Read(|read, _| read.state == Some(RunState::Blocked))),
+    ("Running", Read(|read, _| runs(read))),
+    ("run time above 0", Read(|read, _| read.ran > Some(0))),
+    ("run time at its limit", Read(|read, _| read.ran == Some(u64::MAX))),
+    ("on a pCPU since", Read(|read, _| read.since.is_some())),
+    ("mask admits the pCPU", Read(|read, _| read.permits)),
+    ("mask does not", Read(|read, seen| barred(read) && seen.pcpu() < 64)),
+    ("mask does not, pCPU id of 64 or more", Read(|read, seen| barred(read) && seen.pcpu() >= 64)),
+    ("weight above the default", Read(|read, _| read.weight > 1)),
+    ("no vCPUs in a bad domain", Read(|read, seen| seen.bad_domain(read) && read.vcpus == 0)),
+    ("full mask of 64 pCPUs", Read(|read, _| read.full_mask == u64::MAX)),
+    ("full mask of none", Read(|read, _| read.full_mask == 0)),
+    ("usage above 2^64", Read(|read, _| read.used >> 64 > 0)),
+    ("busy pCPUs", Read(|read, _| read.busy > 0)),
+    ("all pCPUs busy", Read(|read, _| read.busy > 0 && read.busy == read.pcpus)),
+    ("pCPU held", Read(|read, _| read.holder.is_some())),
+    ("pCPU idle", Read(|read, seen| read.holder.is_none() && seen.pcpu() < read.pcpus)),
+    ("pCPU out of range", Read(|read, seen| seen.pcpu() >= read.pcpus)),
+    ("next is Run", Read(|read, _| matches!(read.next, Decision::Run { .. }))),
+    ("next is Preempt", Read(|read, _| matches!(read.next, Decision::Preempt { .. }))),
+    ("next is Idle", Read(|read, _| read.next == Decision::Idle)),
+    ("next is Idle while some wait", Read(|read, seen| read.next == Decision::Idle && seen.host.is_some_and(waits))),
+    ("offline_all frees a pCPU", Read(|_, seen| seen.all_off() && seen.ran)),
+    ("offline_all of a bad domain", Read(|read, seen| seen.all_off() && seen.bad_domain(read))),
+    ("offline_all without a host", NoHost(|seen| seen.is(OFFLINE_ALL, BAD_SCRIPT))),
+    ("policy of another shape", Read(|_, seen| seen.apart.is_some())),
+    ("advance moves under one", Read(|_, seen| seen.apart.is_some() && seen.told.moves > 0)),
+    ("vCPU outside its policy's shape runs", Read(|read, seen| seen.outside() && runs(read))),
+    ("policy's shape too large", Read(|_, seen| seen.is(BUILD_APART, TOO_LARGE))),
+];
+
+impl When {
+    fn holds(&self, seen: &Seen) -> bool {
+        match (self, seen.reads) {
+            (Read(holds), Some(read)) => holds(read, seen),
+            (NoHost(holds), None) => holds(seen),
+            _ => false,
+        }
+    }
+}
+
+impl Seen<'_> {
+    fn is(&self, kind: u16, answer: u8) -> bool {
+        self.record.kind == kind && self.told.answer == answer
+    }
+
+    fn all_off(&self) -> bool {
+        self.is(OFFLINE_ALL, DONE)
+    }
+
+    fn pcpu(&self) -> usize {
+        self.record.third as usize
+    }
+
+    fn bad_domain(&self, read: &Reads) -> bool {
+        usize::from(self.record.domain) >= read.domains
+    }
+
+    fn outside(&self) -> bool {
+        let (domain, vcpu) = (u64::from(self.record.domain), u64::from(self.record.vcpu));
+        self.apart.is_some_and(|[domains, vcpus]| domain >= domains || vcpu >= vcpus)
+    }
+}
+
+fn runs(read: &Reads) -> bool {
+    matches!(read.state, Some(RunState::Running { .. }))
+}
+
+fn barred(read: &Reads) -> bool {
+    read.state.is_some() && !read.permits
+}
+
+fn waits(host: &Host) -> bool {
+    let s = &host.system;
+    let mut ids = (0..s.domain_count() as u16).flat_map(|d| (0..s.vcpu_count(d) as u32).map(move |v| (d, v)));
+    ids.any(|(d, v)| s.state_of(d, v) == Some(RunState::Runnable))
+}
+
+pub struct Outcomes {
+    counts: [u64; OUTCOMES.len()],
+}
+
+impl Default for Outcomes {
+    fn default() -> Outcomes {
+        Outcomes { counts: [0; OUTCOMES.len()] }
+    }
+}
+
+impl Outcomes {
+    pub fn note(&mut self, seen: &Seen) {
+        for ((_, when), n) in OUTCOMES.iter().zip(&mut self.counts) {
+            *n += u64::from(when.holds(seen));
+        }
+    }
+
+    pub fn print(&self) {
+        for ((name, _), n) in OUTCOMES.iter().zip(self.counts) {
+            println!("{name:>36} {n:>9}");
+        }
+    }
+
+    pub fn unreached(&self) -> Vec<String> {
+        let unseen = OUTCOMES.iter().zip(self.counts).filter(|(_, n)| *n == 0);
+        unseen.map(|((name, _), _)| name.to_string()).collect()
+    }
+}
