@@ -1,16 +1,10 @@
-pub mod Idle
-pub mod Limit
-pub mod Lookups
-pub mod Returned
-pub mod Enacted
-pub mod Accepted
-pub mod Exact
-pub mod Going
-pub mod Potential
-pub mod Lag
-pub mod LagMoves
-pub mod Moves
-pub mod Rows
-pub mod Settles
-pub mod Stores
-pub mod Sum
+mod IdleSet
+mod Limit
+mod Lookups
+mod AdvanceResult
+pub mod Recommendations
+mod SettleLoop
+mod SettleMoves
+mod Rows
+mod RowUpdates
+mod RowStores

@@ -4,7 +4,7 @@ use mathlib.Core.Bool.{Bool, true, false}
 use mathlib.Core.Path.{_≡_, refl, sym}
 use lib.Dec.{ltb}
 use borrow.Author.Tests.{ltb-true, ltb-false}
-use Rattle.policy.proofs.Ids.{vcpu-below, vcpu-beyond}
+use Rattle.policy.proofs.Laws.{vcpu-below, vcpu-beyond}
 
 -- a vCPU id is below 8, whatever the count
 pub present-here : (i k : ℕ) → ltb (i % 8) k ≡ ltb (i % 8) (min k 8)

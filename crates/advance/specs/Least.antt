@@ -2,7 +2,7 @@
 -- the earliest of those that have it. Assumes nothing.
 use Prim.Native.Nat.{ℕ, _*_, _^_, _≤_, _<_}
 use mathlib.Core.Bool.{true, false}
-use mathlib.Core.Path.{_≡_, sym, _∙_}
+use mathlib.Core.Path.{_≡_, refl, sym, _∙_}
 use native.Mathlib.Nat.{le-refl}
 use native.Mathlib.Omega.{arith}
 use lib.Dec.{ltb}
@@ -11,13 +11,15 @@ use Rattle.service.specs.Laws.{deserving-exact}
 use Rattle.system.specs.declared.System.{System}
 use Rattle.sched.specs.CanRun.{CanRun}
 use Rattle.moves.specs.declared.Choice.the-variants.{Run, Preempt}
-use Rattle.moves.specs.Scan.{Ranks}
+use Rattle.scan.specs.Scan.{Ranks}
 use Rattle.policy.specs.declared.Scheduler.{Scheduler}
-use Rattle.policy.specs.Standing.{weightAt, serviceAt, deserves}
-use Rattle.advance.specs.Choices.{choice}
-use Rattle.advance.specs.ChoiceLaws.{CanPreempt, Rival, Placeable, Preemptible, choice-run, choice-preempt, choice-beaten}
-use Rattle.advance.specs.ChoiceLaws.{choice-least, choice-earliest, choice-worst, choice-worst-earliest}
-use Rattle.advance.specs.Cross.{before-trans, after-trans}
+use Rattle.policy.specs.Standing.{weightAt, serviceAt}
+use Rattle.rules.specs.Rules.{beats}
+use Rattle.rules.specs.Choices.{choice}
+use Rattle.rules.specs.ChoiceLaws.{CanPreempt, Rival, Placeable, Preemptible, choice-run, choice-preempt, choice-beaten}
+use Rattle.rules.specs.ChoiceLaws.{choice-least, choice-earliest, choice-worst, choice-worst-earliest}
+use Rattle.advance.specs.ServiceRule.{ruleOf}
+use Rattle.service.specs.Fractions.{before-trans, after-trans}
 
 -- no product that ranks two of those is held
 pub record Unheld (s : System) (π : Scheduler) (now : ℕ) (P : ℕ → Type 0) : Type 0 where
@@ -33,18 +35,19 @@ module _ {s : System} {π : Scheduler} {now : ℕ} {P : ℕ → Type 0} (U : Unh
   w : ℕ → ℕ
   w = weightAt π
 
-  exact : (i j : ℕ) → P i → P j → deserves s π now i j ≡ ltb (serviceAt s π now i * weightAt π j) (serviceAt s π now j * weightAt π i)
-  unfolding deserves
-  exact i j l m = deserving-exact (serviceAt s π now i) (weightAt π i) (serviceAt s π now j) (weightAt π j) (U .products i j l m) (U .products j i m l)
+  exact : (i j : ℕ) → P i → P j → beats (ruleOf π) s now i j ≡ ltb (serviceAt s π now i * weightAt π j) (serviceAt s π now j * weightAt π i)
+  exact i j l m =
+      deserving-exact (serviceAt s π now i) (weightAt π i) (serviceAt s π now j) (weightAt π j) (U .products i j l m) (U .products j i m l)
 
-  pub before : (i j : ℕ) → P i → P j → deserves s π now i j ≡ true → serviceAt s π now i * weightAt π j < serviceAt s π now j * weightAt π i
+  pub before : (i j : ℕ) → P i → P j → beats (ruleOf π) s now i j ≡ true
+      → serviceAt s π now i * weightAt π j < serviceAt s π now j * weightAt π i
   before i j l m e = ltb-true _ _ (sym (exact i j l m) ∙ e)
 
-  pub not-before : (i j : ℕ) → P i → P j → deserves s π now i j ≡ false
+  pub not-before : (i j : ℕ) → P i → P j → beats (ruleOf π) s now i j ≡ false
       → serviceAt s π now j * weightAt π i ≤ serviceAt s π now i * weightAt π j
   not-before i j l m e = ltb-false _ _ (sym (exact i j l m) ∙ e)
 
-  pub unheld-ranks : Ranks P (deserves s π now)
+  pub unheld-ranks : Ranks P (beats (ruleOf π) s now)
   unfolding S w
   unheld-ranks =
       record {
@@ -57,35 +60,36 @@ module _ {s : System} {π : Scheduler} {now : ℕ} {P : ℕ → Type 0} (U : Unh
             ∙ le-ltb _ _ (after-trans (S i) (w i) (S j) (w j) (S k) (w k) (weight-pos π j) (not-before i j a b e) (not-before j k b c f));
       }
 
-module _ (s : System) (π : Scheduler) (now : ℕ) (U : Unheld s π now (Placeable s)) (i p j q : ℕ) (e : choice s π now ≡ Run i p) (c : CanRun s j q) where
-  this : Placeable s i
-  this = record { onto = p; can = choice-run s π now i p e }
+module _ (s : System) (π : Scheduler) (now : ℕ) (U : Unheld s π now (Placeable s (ruleOf π) now)) (i p j q : ℕ)
+    (e : choice s (ruleOf π) now ≡ Run i p) (c : CanRun s j q) where
+  this : Placeable s (ruleOf π) now i
+  this = record { onto = p; can = choice-run s (ruleOf π) now i p e; unbarred = refl }
 
-  other : Placeable s j
-  other = record { onto = q; can = c }
+  other : Placeable s (ruleOf π) now j
+  other = record { onto = q; can = c; unbarred = refl }
 
   -- whoever else could be dispatched has no less
   pub run-least : serviceAt s π now i * weightAt π j ≤ serviceAt s π now j * weightAt π i
-  run-least = not-before U j i other this (choice-least s π now (unheld-ranks U) i p j q e c)
+  run-least = not-before U j i other this (choice-least s (ruleOf π) now (unheld-ranks U) i p j q e c refl)
 
   -- and more, if it comes earlier
   pub run-earliest : j < i → serviceAt s π now i * weightAt π j < serviceAt s π now j * weightAt π i
-  run-earliest l = before U i j this other (choice-earliest s π now (unheld-ranks U) i p j q e c l)
+  run-earliest l = before U i j this other (choice-earliest s (ruleOf π) now (unheld-ranks U) i p j q e c refl l)
 
-module _ (s : System) (π : Scheduler) (now : ℕ) (U : Unheld s π now (Preemptible s π now)) (i p j q k : ℕ) (e : choice s π now ≡ Preempt i p)
-    (c : CanPreempt s π now j q) (r : Rival s π now j q k) where
-  victim : Preemptible s π now i
+module _ (s : System) (π : Scheduler) (now : ℕ) (U : Unheld s π now (Preemptible s (ruleOf π) now)) (i p j q k : ℕ)
+    (e : choice s (ruleOf π) now ≡ Preempt i p) (c : CanPreempt s (ruleOf π) now j q) (r : Rival s (ruleOf π) now j q k) where
+  victim : Preemptible s (ruleOf π) now i
   victim =
-      let b = choice-beaten s π now i p e in
-      record { on = p; can = choice-preempt s π now i p e; by = b .0; rival = b .1 }
+      let b = choice-beaten s (ruleOf π) now i p e in
+      record { on = p; can = choice-preempt s (ruleOf π) now i p e; by = b .0; rival = b .1 }
 
-  spared : Preemptible s π now j
+  spared : Preemptible s (ruleOf π) now j
   spared = record { on = q; can = c; by = k; rival = r }
 
   -- whoever else could be preempted has no more
   pub preempt-most : serviceAt s π now j * weightAt π i ≤ serviceAt s π now i * weightAt π j
-  preempt-most = not-before U i j victim spared (choice-worst s π now (unheld-ranks U) i p j q k e c r)
+  preempt-most = not-before U i j victim spared (choice-worst s (ruleOf π) now (unheld-ranks U) i p j q k e c r)
 
   -- and less, if it comes earlier
   pub preempt-earliest : j < i → serviceAt s π now j * weightAt π i < serviceAt s π now i * weightAt π j
-  preempt-earliest l = before U j i spared victim (choice-worst-earliest s π now (unheld-ranks U) i p j q k e c r l)
+  preempt-earliest l = before U j i spared victim (choice-worst-earliest s (ruleOf π) now (unheld-ranks U) i p j q k e c r l)

@@ -1,7 +1,5 @@
-pub mod Choices
+pub mod ServiceRule
 pub mod Advance
-pub mod Told
-pub mod ChoiceLaws
-pub mod Cross
+pub mod Outcomes
 pub mod Least
-pub mod Loops
+pub mod Internal

@@ -1,17 +1,23 @@
 //! The moves: what to do next, and an advance that does it until nothing is left to do.
 
 ghost use mathlib.Core.Path.{_≡_};
-ghost use mathlib.Core.Bool.{true};
-ghost use Prim.Native.Nat.{_+_, _*_, _≤_, min};
+ghost use mathlib.Core.Bool.{true, false};
+ghost use Prim.Native.Nat.{_+_, _*_, _^_, _≤_, _<_, min};
 ghost use Rattle.verdict.specs.Violations.{invariantsHold};
 ghost use Rattle.moves.specs.Decide.{decide};
-ghost use Rattle.moves.specs.Table.{tabled};
-ghost use Rattle.advance.specs.Advance.{limit, next, advance};
-ghost use Rattle.advance.specs.Told.{recommended, advanced, counted};
-ghost use Rattle.advance.specs.Loops.{kindOf, Tabulates, idleSet};
-ghost use Rattle.advance.specs.Loops.{namedAs, slotIn, ontoIn, recordAfter, occupantAfter, cleared, freed, isRest, Settles};
+ghost use Rattle.moves.specs.Table.{rowAt, tabled};
+ghost use Rattle.service.specs.Service.{held};
+ghost use Rattle.policy.specs.Standing.{serviceOf};
+ghost use Rattle.rules.specs.Settle.{limit};
+ghost use Rattle.advance.specs.Advance.{next, advance};
+ghost use Rattle.advance.specs.Outcomes.{nextOutcome, advanceOutcome, counted};
+ghost use Rattle.advance.specs.Internal.{kindOf, offPcpu, setRow, Tabulates, idleSet};
+ghost use Rattle.advance.specs.Internal.{namedAs, slotIn, ontoIn, recordAfter, occupantAfter, cleared, freed, isRest, Settleable, SomeRule, EachRule, Settles};
+ghost use Rattle.advance.specs.ServiceRule.{ruleOf};
 use moves::Choice;
+use policy::Account;
 use policy::Scheduler;
+use service::Service;
 use system::Answer;
 use system::DomId;
 use system::Occupant;
@@ -39,18 +45,21 @@ pub struct Recommendation {
 }
 
 /// An answer, the system and the policy that an advance leaves, and how many moves it enacted.
+// The answer stands last: behind it, and what pads it, the tables would be copied once more.
 pub struct Advanced {
-    pub answer: Answer,
     pub system: System,
     pub scheduler: Scheduler,
     pub count: usize,
+    pub answer: Answer,
 }
 
-// The standing of each slot, as arrays that a decision is lent.
+// The standing of each slot, as arrays that a decision is lent; `left` is the service of a slot once it
+// has left its pCPU.
 struct Table {
     kind: [u32; 128],
     mask: [u64; 128],
     service: [u32; 512],
+    left: [u32; 512],
     weight: [u32; 128],
 }
 
@@ -64,7 +73,7 @@ struct Settled {
 
 // 1 for a vCPU that waits, p + 2 for one that has held pCPU p for the slice, 0 for any other.
 fn kind_of(v: VirtualCpu, present: bool, quantum: Ticks, now: Ticks) -> u32
-    ensures { λ r. ⌜ r ≡ kindOf present quantum now v ⌝ }
+    ensures { λ r. ⌜ r ≡ kindOf present false quantum now v ⌝ }
 {
     let state = v.state;
     if !present {
@@ -85,12 +94,49 @@ fn kind_of(v: VirtualCpu, present: bool, quantum: Ticks, now: Ticks) -> u32
     }
 }
 
+// The service of a vCPU once it has left its pCPU; one that is on none has what it has, `row`.
+fn left_row(v: VirtualCpu, a: Account, row: Service, now: Ticks) -> Service
+    requires { ⌜ row ≡ held (serviceOf v a now) ⌝ }
+    ensures { λ r. ⌜ r ≡ held (serviceOf (offPcpu v now) a now) ⌝ }
+{
+    let state = v.state;
+    match state {
+        RunState::Offline => row,
+        RunState::Runnable => row,
+        RunState::Running { pcpu: _ } => {
+            policy::service_of(changes::left(v, RunState::Runnable, now), a, now)
+        }
+        RunState::Blocked => row,
+    }
+}
+
+// The four limbs of slot i.
+fn row_at(rows: &[u32; 512], i: usize) -> Service
+    requires { ⌜ i < 128 ⌝ }
+    ensures { λ r. ⌜ r ≡ rowAt (now (rows .entry)) i ⌝ }
+{
+    let j = i * 4;
+    [rows[j], rows[j + 1], rows[j + 2], rows[j + 3]]
+}
+
+fn put_row(rows: &mut [u32; 512], i: usize, row: Service)
+    requires { ⌜ i < 128 ⌝ }
+    ensures { λ _. ⌜ now (rows .exit) ≡ setRow (now (rows .entry)) i row ⌝ }
+{
+    let j = i * 4;
+    rows[j] = row[0];
+    rows[j + 1] = row[1];
+    rows[j + 2] = row[2];
+    rows[j + 3] = row[3];
+}
+
 fn tabulate(s: System, p: Scheduler, now: Ticks) -> Table
-    ensures { λ r. ⌜ Tabulates s p now (r .kind) (r .mask) (r .service) (r .weight) ⌝ }
+    ensures { λ r. ⌜ Tabulates s (ruleOf p) now (r .kind) (r .mask) (r .service) (r .left) (r .weight) ⌝ }
 {
     let mut kind = [0u32; 128];
     let mut mask = [0u64; 128];
     let mut service = [0u32; 512];
+    let mut left = [0u32; 512];
     let mut weight = [0u32; 128];
     let n = least(s.domain_count, system::MAX_DOMAINS) * 8;
     let k = s.vcpus_per_domain;
@@ -99,20 +145,19 @@ fn tabulate(s: System, p: Scheduler, now: Ticks) -> Table
         let v = s.vcpus[i];
         let a = policy::looked_up(p.domain_count, p.vcpus_per_domain, i, p.accounts[i]);
         let row = policy::service_of(v, a, now);
-        let j = i * 4;
+        let gone = left_row(v, a, row, now);
         kind[i] = kind_of(v, i % 8 < k, p.quantum, now);
         mask[i] = v.affinity;
         weight[i] = policy::used_weight(a);
-        service[j] = row[0];
-        service[j + 1] = row[1];
-        service[j + 2] = row[2];
-        service[j + 3] = row[3];
+        put_row(&mut service, i, row);
+        put_row(&mut left, i, gone);
         i += 1;
     }
     Table {
         kind,
         mask,
         service,
+        left,
         weight,
     }
 }
@@ -125,8 +170,8 @@ fn idle_set(s: System) -> u64
     let mut set: u64 = 0;
     let mut q: usize = 0;
     while q < n {
-        let held = s.pcpus[q];
-        let o = held.occupant;
+        let c = s.pcpus[q];
+        let o = c.occupant;
         if is_idle(o) {
             set = set + masks::pcpu_bit(q as u32);
         }
@@ -169,12 +214,13 @@ fn onto_in(c: Choice) -> u32
     }
 }
 
+// The run time that it began from is a word.
 fn record_after(c: Choice, v: VirtualCpu, now: Ticks) -> VirtualCpu
-    ensures { λ r. ⌜ r ≡ recordAfter c v now ⌝ }
+    ensures { λ r. ⌜ (r ≡ recordAfter c v now) × (v .runtime < 2 ^ 64) ⌝ }
 {
     match c {
-        Choice::Run { at: _, pcpu } => sched::dispatched(v, pcpu, now),
-        Choice::Preempt { at: _, pcpu: _ } => sched::left(v, RunState::Runnable, now),
+        Choice::Run { at: _, pcpu } => changes::dispatched(v, pcpu, now),
+        Choice::Preempt { at: _, pcpu: _ } => changes::left(v, RunState::Runnable, now),
         Choice::Rest => v,
     }
 }
@@ -227,18 +273,19 @@ fn most_moves(domain_count: usize, vcpus_per_domain: usize, pcpu_count: usize) -
     d * v + 2 * p + 1
 }
 
-// Decides and enacts until there is nothing to do. The table follows each move, so that only the slot
-// that moved is looked at again.
-fn settle(s: System, p: Scheduler, t: Table, now: Ticks) -> Settled
+// Decides and enacts until there is nothing to do, under whatever rule the table is of. The table
+// follows each move, so that only the slot that moved is looked at again.
+fn settle(s: System, slice: Ticks, t: Table, now: Ticks) -> Settled
     requires { ⌜ invariantsHold s ≡ true ⌝ }
-    requires { ⌜ Tabulates s p now (t .kind) (t .mask) (t .service) (t .weight) ⌝ }
-    ensures { λ r. ⌜ Settles p now (limit s) s (r .system) (r .count) ⌝ }
+    requires { ⌜ SomeRule (Settleable s slice now (t .kind) (t .mask) (t .service) (t .left) (t .weight)) ⌝ }
+    ensures { λ r. ⌜ EachRule (Settleable s slice now (t .kind) (t .mask) (t .service) (t .left) (t .weight)) (λ ρ. Settles ρ now (limit s) s (r .system) (r .count)) ⌝ }
 {
     let n = s.domain_count * 8;
     let most = most_moves(s.domain_count, s.vcpus_per_domain, s.pcpu_count);
     let mut kind = t.kind;
     let mask = t.mask;
     let mut service = t.service;
+    let left = t.left;
     let weight = t.weight;
     let mut idle = idle_set(s);
     let mut system = s;
@@ -251,21 +298,12 @@ fn settle(s: System, p: Scheduler, t: Table, now: Ticks) -> Settled
         let i = slot_in(c);
         let q = onto_in(c) as usize;
         let v = record_after(c, system.vcpus[i], now);
-        let row = policy::service_of(
-            v,
-            policy::looked_up(p.domain_count, p.vcpus_per_domain, i, p.accounts[i]),
-            now,
-        );
-        let j = i * 4;
         system.vcpus[i] = v;
         system.pcpus[q] = PhysicalCpu {
             occupant: occupant_after(c),
         };
-        kind[i] = kind_of(v, true, p.quantum, now);
-        service[j] = row[0];
-        service[j + 1] = row[1];
-        service[j + 2] = row[2];
-        service[j + 3] = row[3];
+        kind[i] = kind_of(v, true, slice, now);
+        put_row(&mut service, i, row_at(&left, i));
         idle = idle - cleared(c) + freed(c);
         count += 1;
     }
@@ -312,7 +350,7 @@ fn choose(s: System, t: Table) -> Choice
 
 /// What to do next: dispatch a vCPU that waits onto an idle pCPU, else preempt one, else nothing.
 pub fn next(s: System, p: Scheduler, now: Ticks) -> Recommendation
-    ensures { λ r. ⌜ recommended r ≡ next s p now ⌝ }
+    ensures { λ r. ⌜ nextOutcome r ≡ next s p now ⌝ }
 {
     if !verdict::invariants_hold(s) {
         return Recommendation {
@@ -330,7 +368,7 @@ pub fn next(s: System, p: Scheduler, now: Ticks) -> Recommendation
 
 /// Accounts, then does what is next until nothing is.
 pub fn advance(s: System, p: Scheduler, now: Ticks) -> Advanced
-    ensures { λ r. ⌜ advanced r ≡ counted (advance s p now) ⌝ }
+    ensures { λ r. ⌜ advanceOutcome r ≡ counted (advance s p now) ⌝ }
 {
     if !verdict::invariants_hold(s) {
         return Advanced {
@@ -342,7 +380,7 @@ pub fn advance(s: System, p: Scheduler, now: Ticks) -> Advanced
     }
     let scheduler = policy::accounted(s, p, now);
     let t = tabulate(s, scheduler, now);
-    let r = settle(s, scheduler, t, now);
+    let r = settle(s, scheduler.quantum, t, now);
     let system = r.system;
     Advanced {
         answer: Answer::Done,

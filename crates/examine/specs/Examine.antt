@@ -8,17 +8,17 @@ use lib.ListN.{length}
 use Rattle.system.specs.declared.Answer.{Answer}
 use Rattle.system.specs.declared.Answer.the-variants.{Done, TooLarge}
 use Rattle.system.specs.Answers.{told}
-use Rattle.system.specs.Shape.{fits}
+use Rattle.system.specs.Shape.{withinSizes}
 use Rattle.host.specs.declared.Host.{Host}
 use Rattle.host.specs.declared.Call.{Call}
 use Rattle.host.specs.Step.{freshHost}
-use Rattle.host.specs.Handed.{Handed}
+use Rattle.host.specs.Outcomes.{HostOutcome}
 use Rattle.records.specs.declared.Record.{Record}
 use Rattle.records.specs.declared.MaybeCall.{MaybeCall}
 use Rattle.records.specs.declared.Plan.{Plan}
 use Rattle.records.specs.Records.{recordAt, afterBuild, planOf}
-use Rattle.reads.specs.declared.Query.{Query}
-use Rattle.reads.specs.Reads.{readsText}
+use Rattle.test_reads.specs.declared.Query.{Query}
+use Rattle.test_reads.specs.Reads.{readsText}
 use Rattle.script.specs.declared.Script.{Script}
 use Rattle.script.specs.Script.{carried}
 use Rattle.text.specs.Lines.{answerLine}
@@ -26,11 +26,11 @@ use Rattle.text.specs.Places.{Placed}
 use Rattle.examine.specs.declared.Written.{Written}
 
 -- a refusal leaves the host as it is
-abbrev pub refused : Host → Answer → Handed
+abbrev pub refused : Host → Answer → HostOutcome
 refused h a = record { number = told a; host = h; count = 0 }
 
 -- a host of d domains of v vCPUs on p pCPUs, with a policy of e domains of u vCPUs and slice q
-abbrev pub made : ℕ → ℕ → ℕ → ℕ → ℕ → ℕ → Handed
+abbrev pub made : ℕ → ℕ → ℕ → ℕ → ℕ → ℕ → HostOutcome
 made d v p e u q = record { number = told Done; host = freshHost d v p e u q; count = 0 }
 
 -- kind 12: the policy's domains are the value's first byte, its vCPUs the second, the slice the other six
@@ -41,9 +41,9 @@ abbrev pub policyVcpus : ℕ → ℕ
 policyVcpus x = x / 2 ^ 48 % 2 ^ 8
 
 -- both shapes have to be within the sizes
-unfoldable pub apart : Host → ℕ → ℕ → ℕ → ℕ → Handed
+unfoldable pub apart : Host → ℕ → ℕ → ℕ → ℕ → HostOutcome
 apart h d v p x =
-    cond (fits d v p && fits (policyDomains x) (policyVcpus x) 0)
+    cond (withinSizes d v p && withinSizes (policyDomains x) (policyVcpus x) 0)
     (made d v p (policyDomains x) (policyVcpus x) (x % 2 ^ 48))
     (refused h TooLarge)
 
@@ -52,11 +52,11 @@ unfoldable pub planned : Bool → List ℕ → Record → Plan
 planned built bs r =
     cond (eqb (r .kind) 11) (afterBuild built (MaybeCall.Some (Call.OfflineAll (r .dom) (r .value)))) (planOf built bs)
 
-unfoldable pub answered : Host → Bool → List ℕ → Record → Handed
+unfoldable pub answered : Host → Bool → List ℕ → Record → HostOutcome
 answered h built bs r =
     cond (eqb (r .kind) 12) (apart h (r .dom) (r .vcpu) (r .third) (r .value)) (carried h (planned built bs r))
 
-abbrev pub answeredBy : Script → List ℕ → Handed
+abbrev pub answeredBy : Script → List ℕ → HostOutcome
 answeredBy c bs = answered (c .host) (c .built) bs (recordAt bs)
 
 -- the script after it: there is a host from the first record on that is told 0

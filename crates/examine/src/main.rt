@@ -7,8 +7,8 @@ ghost use mathlib.Core.Bool.{true, _||_};
 ghost use Prim.Native.Nat.{_+_, _≤_};
 ghost use lib.Dec.{eqb};
 ghost use lib.ListN.{length};
-ghost use Rattle.system.specs.Shape.{fits};
-ghost use Rattle.host.specs.Handed.{handed};
+ghost use Rattle.system.specs.Shape.{withinSizes};
+ghost use Rattle.host.specs.Outcomes.{hostOutcome};
 ghost use Rattle.script.specs.Script.{carried};
 ghost use Rattle.text.specs.Lines.{answerLine};
 ghost use Rattle.text.specs.Places.{Placed};
@@ -17,7 +17,6 @@ use host::Call;
 use host::Host;
 use host::Outcome;
 use policy::Scheduler;
-use reads::Query;
 use records::Plan;
 use records::Record;
 use script::Script;
@@ -26,6 +25,7 @@ use system::DomId;
 use system::System;
 use system::Ticks;
 use system::Vcpu;
+use test_reads::Query;
 
 // A script under way, and the bytes written for its last record.
 struct Written {
@@ -50,7 +50,7 @@ fn query_of(r: Record) -> Query
 
 // A refusal leaves the host as it is.
 fn refused(h: Host, answer: Answer) -> Outcome
-    ensures { λ x. ⌜ handed x ≡ refused h answer ⌝ }
+    ensures { λ x. ⌜ hostOutcome x ≡ refused h answer ⌝ }
 {
     Outcome {
         answer,
@@ -60,9 +60,9 @@ fn refused(h: Host, answer: Answer) -> Outcome
 }
 
 fn built_apart(d: usize, v: usize, p: usize, e: usize, u: usize, slice: Ticks) -> Outcome
-    requires { ⌜ fits d v p ≡ true ⌝ }
-    requires { ⌜ fits e u 0 ≡ true ⌝ }
-    ensures { λ x. ⌜ handed x ≡ made d v p e u slice ⌝ }
+    requires { ⌜ withinSizes d v p ≡ true ⌝ }
+    requires { ⌜ withinSizes e u 0 ≡ true ⌝ }
+    ensures { λ x. ⌜ hostOutcome x ≡ made d v p e u slice ⌝ }
 {
     let s = System::new(d, v, p);
     let q = Scheduler::new(e, u, slice);
@@ -77,7 +77,7 @@ fn built_apart(d: usize, v: usize, p: usize, e: usize, u: usize, slice: Ticks) -
 
 // The policy's domains are the value's first byte, its vCPUs the second, the slice the other six.
 fn apart(h: Host, dom: DomId, vcpu: Vcpu, pcpus: u32, value: u64) -> Outcome
-    ensures { λ x. ⌜ handed x ≡ apart h dom vcpu pcpus value ⌝ }
+    ensures { λ x. ⌜ hostOutcome x ≡ apart h dom vcpu pcpus value ⌝ }
 {
     let d = dom as usize;
     let v = vcpu as usize;
@@ -94,7 +94,7 @@ fn apart(h: Host, dom: DomId, vcpu: Vcpu, pcpus: u32, value: u64) -> Outcome
 }
 
 fn by_plan(h: Host, plan: Plan) -> Outcome
-    ensures { λ x. ⌜ handed x ≡ carried h plan ⌝ }
+    ensures { λ x. ⌜ hostOutcome x ≡ carried h plan ⌝ }
 {
     match plan {
         Plan::Refuse(answer) => refused(h, answer),
@@ -125,7 +125,7 @@ fn plan_of(built: bool, bytes: &[u8], r: Record) -> Plan
 }
 
 fn answered(h: Host, built: bool, bytes: &[u8], r: Record) -> Outcome
-    ensures { λ x. ⌜ handed x ≡ answered h built (now (bytes .entry)) r ⌝ }
+    ensures { λ x. ⌜ hostOutcome x ≡ answered h built (now (bytes .entry)) r ⌝ }
 {
     if r.kind == 12 {
         return apart(h, r.dom, r.vcpu, r.third, r.value);
@@ -156,7 +156,7 @@ fn put_host(out: &mut [u8], at: usize, built: bool, h: Host, r: Record) -> usize
     ensures { λ x. ⌜ Placed (now (out .entry)) at (hostShown built h r) (now (out .exit)) x ⌝ }
 {
     if built {
-        reads::reads(out, at, h, query_of(r))
+        test_reads::reads(out, at, h, query_of(r))
     } else {
         at
     }

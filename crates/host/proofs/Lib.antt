@@ -1,12 +1,1 @@
-pub mod Built
-pub mod Along
-pub mod Conclusions
-pub mod Keeping
-pub mod Matching
-pub mod PoolAlong
-pub mod Pooling
-pub mod Shrinks
-pub mod Unrun
-pub mod Demand3
-pub mod Holders
-pub mod Examples
+mod NewHost

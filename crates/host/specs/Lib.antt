@@ -1,7 +1,3 @@
 pub mod Step
-pub mod Handed
-pub mod Book
-pub mod Agreement
-pub mod Lists
-pub mod Demand3
-pub mod Situations
+pub mod Outcomes
+pub mod Computing

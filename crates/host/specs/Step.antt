@@ -1,7 +1,7 @@
 -- A host, its calls, and what one call does.
-use Prim.Native.Nat.{ℕ}
+use Prim.Native.Nat.{ℕ, _≤_}
 use mathlib.Core.List.{List, [], _∷_}
-use Rattle.system.specs.Answers.{Outcome}
+use Rattle.system.specs.Answers.{SystemOutcome}
 use Rattle.system.specs.Shape.{fresh}
 use Rattle.sched.specs.Steps as sched
 use Rattle.moves.specs.declared.Choice.{Choice}
@@ -18,7 +18,7 @@ pub record Step : Type 0 where
   pub moves : List Choice
 
 -- a call of the mechanism, and one of the policy
-abbrev pub bySystem : Host → Outcome → Step
+abbrev pub bySystem : Host → SystemOutcome → Step
 bySystem h r = record { number = r .number; host = record { system = r .system; scheduler = h .scheduler }; moves = [] }
 
 abbrev pub byPolicy : Host → Scheduler → Step
@@ -41,10 +41,14 @@ step h (Call.SetWakeBoost on) = byPolicy h (setWakeBoost (h .scheduler) on)
 step h (Call.Advance now) = byAdvance (policy.advance (h .system) (h .scheduler) now)
 
 -- the host after a list of calls
-unfoldable pub after : Host → List Call → Host
-after h [] = h
-after h (c ∷ cs) = after ((step h c) .host) cs
+unfoldable pub hostAfter : Host → List Call → Host
+hostAfter h [] = h
+hostAfter h (c ∷ cs) = hostAfter ((step h c) .host) cs
 
 -- a host as built: d domains of v vCPUs on p pCPUs; a policy of e domains of u vCPUs with slice q
 abbrev pub freshHost : ℕ → ℕ → ℕ → ℕ → ℕ → ℕ → Host
 freshHost d v p e u q = record { system = fresh d v p; scheduler = freshPolicy e u q }
+
+-- its slice is 1 or more
+abbrev pub Sliced : Host → Type 0
+Sliced h = 1 ≤ h .scheduler .quantum

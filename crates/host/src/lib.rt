@@ -1,10 +1,10 @@
 //! A host: a system and a policy together, a call as data, and one step.
 
 ghost use mathlib.Core.Path.{_≡_};
-ghost use Rattle.system.specs.Answers.{outcome};
-ghost use Rattle.advance.specs.Told.{advanced};
+ghost use Rattle.system.specs.Answers.{systemOutcome};
+ghost use Rattle.advance.specs.Outcomes.{advanceOutcome};
 ghost use Rattle.host.specs.Step.{step};
-ghost use Rattle.host.specs.Handed.{handed, counted, handedBy, byPolicy, handedAfter, built};
+ghost use Rattle.host.specs.Outcomes.{hostOutcome, stepCounted, systemHands, policyHands, advanceHands, builtHost};
 use advance::Advanced;
 use policy::Adjusted;
 use policy::Scheduler;
@@ -24,10 +24,11 @@ pub struct Host {
 }
 
 /// An answer, the host that the call leaves, and how many moves it enacted.
+// The answer stands last: behind it, and what pads it, the host would be copied once more.
 pub struct Outcome {
-    pub answer: Answer,
     pub host: Host,
     pub count: usize,
+    pub answer: Answer,
 }
 
 /// A call of the host.
@@ -85,7 +86,7 @@ pub enum Call {
 
 // What a call of the mechanism hands back.
 fn by_system(r: Stepped, p: Scheduler) -> Outcome
-    ensures { λ x. ⌜ handed x ≡ handedBy p (outcome r) ⌝ }
+    ensures { λ x. ⌜ hostOutcome x ≡ systemHands p (systemOutcome r) ⌝ }
 {
     let system = r.system;
     let answer = r.answer;
@@ -101,7 +102,7 @@ fn by_system(r: Stepped, p: Scheduler) -> Outcome
 
 // What a call of the policy hands back: it is never refused.
 fn by_policy(s: System, p: Scheduler) -> Outcome
-    ensures { λ x. ⌜ handed x ≡ byPolicy s p ⌝ }
+    ensures { λ x. ⌜ hostOutcome x ≡ policyHands s p ⌝ }
 {
     Outcome {
         answer: Answer::Done,
@@ -114,7 +115,7 @@ fn by_policy(s: System, p: Scheduler) -> Outcome
 }
 
 fn by_advance(r: Advanced) -> Outcome
-    ensures { λ x. ⌜ handed x ≡ handedAfter (advanced r) ⌝ }
+    ensures { λ x. ⌜ hostOutcome x ≡ advanceHands (advanceOutcome r) ⌝ }
 {
     let system = r.system;
     let scheduler = r.scheduler;
@@ -135,7 +136,7 @@ impl Host {
         num_pcpus: usize,
         quantum: Ticks,
     ) -> Outcome
-        ensures { λ r. ⌜ handed r ≡ built «num_domains» «vcpus_per_domain» «num_pcpus» quantum ⌝ }
+        ensures { λ r. ⌜ hostOutcome r ≡ builtHost «num_domains» «vcpus_per_domain» «num_pcpus» quantum ⌝ }
     {
         if system::within_sizes(num_domains, vcpus_per_domain, num_pcpus) {
             let p = Scheduler::new(num_domains, vcpus_per_domain, quantum);
@@ -157,7 +158,7 @@ impl Host {
 
 /// One call.
 pub fn step(h: Host, call: Call) -> Outcome
-    ensures { λ r. ⌜ handed r ≡ counted (step h call) ⌝ }
+    ensures { λ r. ⌜ hostOutcome r ≡ stepCounted (step h call) ⌝ }
 {
     let s = h.system;
     let p = h.scheduler;

@@ -1,2 +1,2 @@
-pub mod Words
+mod Words
 mod Examples

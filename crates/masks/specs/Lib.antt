@@ -1,4 +1,3 @@
 pub mod Masks
 pub mod Laws
 pub mod Sets
-pub mod Conj

@@ -2,18 +2,14 @@
 use Prim.Native.Nat.{ℕ, _<_}
 use mathlib.Core.Bool.{Bool, true, false, _&&_}
 use mathlib.Core.Path.{_≡_, refl, _∙_, ap, ap₂}
-use mathlib.Core.Logic.{_⊎_, inl, inr}
+use mathlib.Core.Logic.{inl, inr}
 use lib.Dec.{ltb}
-use Rattle.masks.specs.Conj.{both}
+use Rattle.scan.specs.Booleans.{both}
 use Rattle.masks.specs.Masks.{permits}
 use Rattle.masks.specs.Laws.{first-cong}
 use Rattle.moves.specs.declared.Choice.the-variants.{Run, Preempt}
-use Rattle.moves.specs.Scan.{Pick, nobody, at, some, scan-sound, scan-cong}
-use Rattle.moves.specs.Decide.{Standings, never, placement, placeable, beaten, loses, chosen, victim, orPreempt, orRun, decide}
-
--- slot i waits or is expired: it takes part in a decision
-abbrev pub Involved : Standings → ℕ → Type 0
-Involved t i = (t .waits i ≡ true) ⊎ (t .expired i ≡ true)
+use Rattle.scan.specs.Scan.{Pick, nobody, at, some, scan-sound, scan-cong, never}
+use Rattle.moves.specs.Decide.{Standings, Involved, placement, placeable, beaten, loses, chosen, victim, orPreempt, orRun, decide}
 
 -- t and t′ are alike for a decision over n slots
 pub record Alike (t t′ : Standings) (n : ℕ) : Type 0 where

@@ -1,6 +1,7 @@
-pub mod Steps
-pub mod Chosen
-pub mod Victim
-pub mod Beaten
-pub mod Decided
-pub mod DecideCong
+pub mod Laws
+mod ScanSteps
+mod PlacementLoop
+mod PreemptionLoop
+mod BeatenLoop
+mod Leaders
+mod DecideCong

@@ -2,12 +2,14 @@
 -- each slot below n (who waits, who is expired: runs and has had its slice, where it runs, its mask, who beats whom) and of each
 -- pCPU (whether it is idle), however that is got.
 use Prim.Native.Nat.{ℕ}
-use mathlib.Core.Bool.{Bool, _&&_}
+use mathlib.Core.Bool.{Bool, true, _&&_}
+use mathlib.Core.Path.{_≡_}
+use mathlib.Core.Logic.{_⊎_}
 use lib.Dec.{ltb}
 use Rattle.masks.specs.Masks.{permits, first}
 use Rattle.moves.specs.declared.Choice.{Choice}
 use Rattle.moves.specs.declared.Choice.the-variants.{Run, Preempt, Rest}
-use Rattle.moves.specs.Scan.{Pick, nobody, at, scan, some}
+use Rattle.scan.specs.Scan.{Pick, nobody, at, scan, some, never}
 
 -- what is known of the slots and the pCPUs
 pub record Standings : Type 0 where
@@ -18,9 +20,9 @@ pub record Standings : Type 0 where
   pub beats : ℕ → ℕ → Bool
   pub idle : ℕ → Bool
 
--- no index is better than another, so the first that passes is picked
-abbrev pub never : ℕ → ℕ → Bool
-never k j = Bool.false
+-- slot i waits or is expired: it takes part in a decision
+abbrev pub Involved : Standings → ℕ → Type 0
+Involved t i = (t .waits i ≡ true) ⊎ (t .expired i ≡ true)
 
 -- the lowest-numbered idle pCPU that the mask of i admits, or 64
 unfoldable pub placement : Standings → ℕ → ℕ

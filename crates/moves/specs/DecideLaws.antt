@@ -6,13 +6,13 @@ use native.Mathlib.Nat.{le-refl, lt-of-not-le}
 use native.Mathlib.Decide.{decLe}
 use native.Mathlib.Omega.{arith}
 use borrow.Author.Tests.{ltb-true, lt-ltb}
-use Rattle.masks.specs.Conj.{both, all-two, zero-one}
+use Rattle.scan.specs.Booleans.{both, all-two, zero-one}
 use Rattle.masks.specs.Masks.{permits, first}
 use Rattle.masks.specs.Laws.{first-least}
 use Rattle.moves.specs.declared.Choice.{Choice}
 use Rattle.moves.specs.declared.Choice.the-variants.{Run, Preempt, Rest}
-use Rattle.moves.specs.Scan.{Pick, nobody, at, scan, some, scan-sound, scan-complete, scan-least, scan-earliest, Ranks}
-use Rattle.moves.specs.Decide.{Standings, never, placement, placeable, beaten, loses, chosen, victim, orPreempt, orRun, decide}
+use Rattle.scan.specs.Scan.{Pick, nobody, at, scan, some, scan-sound, scan-complete, scan-least, scan-earliest, Ranks, never}
+use Rattle.moves.specs.Decide.{Standings, placement, placeable, beaten, loses, chosen, victim, orPreempt, orRun, decide}
 
 -- i waits, and may use pCPU p now
 pub record Fits (t : Standings) (i p : ℕ) : Type 0 where
@@ -28,7 +28,7 @@ pub record Beats (t : Standings) (n i j : ℕ) : Type 0 where
   pub admits : permits (t .mask j) (t .on i) ≡ true
   pub wins : t .beats j i ≡ true
 
--- ---- placement: what it gives fits, and it gives one if one fits
+-- ---- placement: what it gives fits, and it gives one if one fits; whatever stands above goes by these two
 
 pub placement-fits : (t : Standings) (i : ℕ) → t .waits i ≡ true → placement t i < 64 → Fits t i (placement t i)
 unfolding placement
@@ -36,9 +36,10 @@ placement-fits t i w l =
     let f = both _ _ (first-least (λ p. t .idle p && permits (t .mask i) p) 64 .found l) in
     record { waits = w; word = l; idle = f .0; admits = f .1 }
 
-pub placement-finds : (t : Standings) (i p : ℕ) → Fits t i p → placement t i ≤ p
+-- which one it is: the lowest-numbered of those that fit
+pub placement-lowest : (t : Standings) (i p : ℕ) → Fits t i p → placement t i ≤ p
 unfolding placement
-placement-finds t i p f = go (decLe (first g 64) p)
+placement-lowest t i p f = go (decLe (first g 64) p)
   where
     g : ℕ → Bool
     g q = t .idle q && permits (t .mask i) q
@@ -47,13 +48,16 @@ placement-finds t i p f = go (decLe (first g 64) p)
     go (yes h) = h
     go (no n) = absurd (true≢false (sym (all-two (f .idle) (f .admits)) ∙ first-least g 64 .before p (lt-of-not-le n)))
 
+pub placement-finds : (t : Standings) (i p : ℕ) → Fits t i p → placement t i < 64
+placement-finds t i p f = let w = f .word in omega (arith, placement-lowest t i p f)
+
 pub placeable-fits : (t : Standings) (i : ℕ) → placeable t i ≡ true → Fits t i (placement t i)
 unfolding placeable
 placeable-fits t i e = let f = both _ _ e in placement-fits t i (f .0) (ltb-true _ _ (f .1))
 
 fits-placeable : (t : Standings) (i p : ℕ) → Fits t i p → placeable t i ≡ true
 unfolding placeable
-fits-placeable t i p f = let w = f .word in all-two (f .waits) (lt-ltb (placement t i) 64 (omega (arith, placement-finds t i p f)))
+fits-placeable t i p f = all-two (f .waits) (lt-ltb (placement t i) 64 (placement-finds t i p f))
 
 -- ---- being beaten
 
@@ -120,6 +124,10 @@ run-fits t n i p e =
     let h = scan-sound (placeable t) (t .beats) n i (w .0) in
     (h .0, rw (w .1) at (placeable-fits t i (h .1)))
 
+-- at its placement
+pub run-placed : (t : Standings) (n i p : ℕ) → decide t n ≡ Run i p → placement t i ≡ p
+run-placed t n i p e = run-why t n i p e .1
+
 -- the decision is a Run
 pub record IsRun (d : Choice) : Type 0 where
   pub who : ℕ
@@ -183,7 +191,8 @@ module _ (t : Standings) (n : ℕ) {P : ℕ → Type 0} (R : Ranks P (t .beats))
   pick-earliest i p j q e l f =
       scan-earliest (placeable t) (t .beats) R n passes n i j (le-refl n) (run-why t n i p e .0) l (fits-placeable t j q f)
 
-module _ (t : Standings) (n : ℕ) {P : ℕ → Type 0} (R : Ranks P (t .beats)) (P-of : (i j : ℕ) → i < n → t .expired i ≡ true → Beats t n i j → P i) where
+module _ (t : Standings) (n : ℕ) {P : ℕ → Type 0} (R : Ranks P (t .beats))
+    (P-of : (i j : ℕ) → i < n → t .expired i ≡ true → Beats t n i j → P i) where
   stops : (i : ℕ) → i < n → loses t n i ≡ true → P i
   unfolding loses
   stops i l c =

@@ -1,5 +1,5 @@
-pub mod Scan
 pub mod Decide
 pub mod DecideLaws
+pub mod Unique
 pub mod Table
-pub mod Loops
+pub mod Internal

@@ -7,7 +7,7 @@ ghost use Prim.Native.Nat.{_≤_, _<_, min};
 ghost use Rattle.masks.specs.Masks.{permits, first};
 ghost use Rattle.moves.specs.Decide.{beaten, decide};
 ghost use Rattle.moves.specs.Table.{tabled, rowAt};
-ghost use Rattle.moves.specs.Loops.{ahead, HoldsExpired, LeadsChosen, LeadsVictim};
+ghost use Rattle.moves.specs.Internal.{ahead, StandsExpired, LeadsChosen, LeadsVictim};
 
 /// One move, or none, by the slots of the table.
 pub enum Choice {
@@ -122,7 +122,7 @@ fn some_affine_waiter_beats<'a>(
     n: usize,
     runner: Leader,
 ) -> bool
-    requires { ⌜ (n ≤ 128) × HoldsExpired (now kind) (now mask) (now service) (now weight) runner ⌝ }
+    requires { ⌜ (n ≤ 128) × StandsExpired (now kind) (now mask) (now service) (now weight) runner ⌝ }
     ensures { λ r. ⌜ r ≡ beaten (tabled (now (kind .entry)) (now (mask .entry)) (now (service .entry)) (now (weight .entry)) 0)
         n (runner .at) ⌝ }
 {

@@ -10,17 +10,18 @@ use lib.Dec.{ltb}
 use lib.ListN.{length, getD, set, length-set, length-map, List·getD-map}
 use lib.Seq.{getD-set-same, getD-set-other}
 use borrow.Author.Tests.{ltb-true}
-use Rattle.masks.specs.Conj.{both}
+use Rattle.scan.specs.Booleans.{both}
 use Rattle.service.specs.Service.{value}
 use Rattle.system.specs.declared.System.{System}
-use Rattle.system.specs.Reads.{slot}
-use Rattle.moves.specs.Scan.{nobody, at, scan-sound}
+use Rattle.system.specs.Slots.{slot, slots, present}
+use Rattle.system.specs.Reads.{pooled}
+use Rattle.scan.specs.Scan.{nobody, at, scan-sound}
 use Rattle.policy.specs.declared.Account.{Account}
 use Rattle.policy.specs.declared.Scheduler.{Scheduler}
 use Rattle.policy.specs.Accounts.{raised, blankAccount, plain, accountAt, covers, accountOf, usedWeight, weightOf, offsetOf, wasSchedulable}
 use Rattle.policy.specs.Accounts.{withAccounts, putAccount, withWeight, setWeight, setWakeBoost, unboosted}
-use Rattle.policy.specs.Standing.{slots, present, deserves}
-use Rattle.policy.specs.Accounting.{pooled, floor, lifted, renewed, renewFirst, accounted}
+use Rattle.policy.specs.Standing.{deserves}
+use Rattle.policy.specs.Accounting.{floor, lifted, renewed, renewFirst, accounted}
 
 -- the accounts are as many as the code's
 pub record Tabled (π : Scheduler) : Type 0 where

@@ -1,7 +1,8 @@
-pub mod Ids
-pub mod Sums
-pub mod Stored
-pub mod ClearTurns
-pub mod FloorTurns
-pub mod RenewalTurns
-pub mod AccountLaws
+pub mod Laws
+mod Ids
+mod Sums
+mod AccountReads
+mod ClearLoop
+mod FloorLoop
+mod RenewalLoop
+mod AccountLaws

@@ -1,27 +1,16 @@
 -- Accounting: a vCPU that joins the pool is placed at the floor of those that stayed in it.
 use Prim.Native.Nat.{ℕ, zero, suc, _-_, _*_, _/_, _%_, _^_, min}
-use mathlib.Core.Bool.{Bool, true, false, cond, not, _&&_}
+use mathlib.Core.Bool.{cond, not, _&&_}
 use mathlib.Core.List.{List}
 use Rattle.service.specs.Service.{held}
-use Rattle.system.specs.declared.RunState.{RunState}
-use Rattle.system.specs.declared.RunState.the-variants.{Offline, Runnable, Running, Blocked}
 use Rattle.system.specs.declared.System.{System}
-use Rattle.system.specs.Reads.{vcpuAt}
-use Rattle.moves.specs.Scan.{Pick, nobody, at, scan}
+use Rattle.system.specs.Reads.{vcpuAt, pooled}
+use Rattle.system.specs.Slots.{slots, present}
+use Rattle.scan.specs.Scan.{Pick, nobody, at, scan}
 use Rattle.policy.specs.declared.Account.{Account}
 use Rattle.policy.specs.declared.Scheduler.{Scheduler}
 use Rattle.policy.specs.Accounts.{accountOf, wasSchedulable, putAccount}
-use Rattle.policy.specs.Standing.{slots, present, weightAt, serviceAt, deserves}
-
--- in the pool
-abbrev pub schedulable : RunState → Bool
-schedulable Offline = false
-schedulable Runnable = true
-schedulable (Running p) = true
-schedulable Blocked = false
-
-abbrev pub pooled : System → ℕ → Bool
-pooled s i = schedulable ((vcpuAt s i) .state)
+use Rattle.policy.specs.Standing.{weightAt, serviceAt, deserves}
 
 -- the most deserving vCPU that is in the pool now and was at the last snapshot, the earliest on a tie
 unfoldable pub floor : System → Scheduler → ℕ → Pick
@@ -43,7 +32,8 @@ renewed s π now i =
     let a = accountOf π (i / 8) (i % 8) in
     record {
       weight = a .weight;
-      offset = cond (π .«wake_boost» && (pooled s i && not (a .«was_schedulable»))) (lifted s π now i (a .offset) (floor s π now)) (a .offset);
+      offset =
+          cond (π .«wake_boost» && (pooled s i && not (a .«was_schedulable»))) (lifted s π now i (a .offset) (floor s π now)) (a .offset);
       «was_schedulable» = pooled s i;
     }
 

@@ -7,7 +7,7 @@ use lib.ListN.{getD, set, replicate}
 use Rattle.service.specs.Service.{value}
 use Rattle.system.specs.declared.Answer.the-variants.{Done, TooLarge}
 use Rattle.system.specs.Answers.{told}
-use Rattle.system.specs.Reads.{slot}
+use Rattle.system.specs.Slots.{slot}
 use Rattle.policy.specs.declared.Account.{Account}
 use Rattle.policy.specs.declared.Scheduler.{Scheduler}
 use Rattle.policy.specs.declared.Adjusted.{Adjusted}

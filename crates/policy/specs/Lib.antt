@@ -1,4 +1,4 @@
 pub mod Accounts
 pub mod Standing
 pub mod Accounting
-pub mod Loops
+pub mod Internal

@@ -1,22 +1,14 @@
 -- A vCPU's standing: its service and its weight, and who has had less for it.
-use Prim.Native.Nat.{ℕ, _+_, _-_, _*_, _/_, _%_, _^_, min}
+use Prim.Native.Nat.{ℕ, _+_, _-_, _/_, _%_, _^_, min}
 use mathlib.Core.Bool.{Bool}
-use lib.Dec.{ltb}
 use Rattle.service.specs.Service.{value, moreDeserving}
 use Rattle.system.specs.declared.VirtualCpu.{VirtualCpu}
 use Rattle.system.specs.declared.System.{System}
 use Rattle.system.specs.Records.{runtimeUntil}
-use Rattle.system.specs.Reads.{domains, vcpus, vcpuAt}
+use Rattle.system.specs.Reads.{vcpuAt}
 use Rattle.policy.specs.declared.Account.{Account}
 use Rattle.policy.specs.declared.Scheduler.{Scheduler}
 use Rattle.policy.specs.Accounts.{accountOf, weightOf}
-
--- the slots of a system, scanned by domain, then vCPU; not every slot has a vCPU
-abbrev pub slots : System → ℕ
-slots s = domains s * 8
-
-abbrev pub present : System → ℕ → Bool
-present s i = ltb (i % 8) (vcpus s)
 
 abbrev pub weightAt : Scheduler → ℕ → ℕ
 weightAt π i = weightOf π (i / 8) (i % 8)
@@ -25,9 +17,12 @@ weightAt π i = weightOf π (i / 8) (i % 8)
 abbrev pub serviceOf : VirtualCpu → Account → ℕ → ℕ
 serviceOf v a now = runtimeUntil v now + value (a .offset)
 
--- of the vCPU at slot i, held at 2^128 − 1
-unfoldable pub serviceAt : System → Scheduler → ℕ → ℕ → ℕ
-serviceAt s π now i = min (serviceOf (vcpuAt s i) (accountOf π (i / 8) (i % 8)) now) (2 ^ 128 - 1)
+-- by the record of the vCPU at slot i, held at 2^128 − 1
+unfoldable pub serviceBy : Scheduler → VirtualCpu → ℕ → ℕ → ℕ
+serviceBy π v now i = min (serviceOf v (accountOf π (i / 8) (i % 8)) now) (2 ^ 128 - 1)
+
+abbrev pub serviceAt : System → Scheduler → ℕ → ℕ → ℕ
+serviceAt s π now i = serviceBy π (vcpuAt s i) now i
 
 -- i has had less service for its weight than j
 unfoldable pub deserves : System → Scheduler → ℕ → ℕ → ℕ → Bool

@@ -3,11 +3,12 @@
 
 ghost use mathlib.Core.Path.{_≡_};
 ghost use Rattle.service.specs.Service.{value, held};
+ghost use Rattle.system.specs.States.{schedulable};
 ghost use Rattle.policy.specs.Accounts.{raised, lookedUp, usedWeight, weightOf, setWeight, setWakeBoost};
 ghost use Rattle.policy.specs.Accounts.{freshPolicy, policyOutcome, builtPolicy};
 ghost use Rattle.policy.specs.Standing.{serviceOf};
-ghost use Rattle.policy.specs.Accounting.{schedulable, floor, accounted};
-ghost use Rattle.policy.specs.Loops.{undercuts, leader, Leads, liftedTo, renewedAt};
+ghost use Rattle.policy.specs.Accounting.{floor, accounted};
+ghost use Rattle.policy.specs.Internal.{undercuts, leader, Leads, liftedTo, renewedAt};
 use service::Service;
 use system::Answer;
 use system::DomId;

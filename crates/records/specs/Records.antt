@@ -8,7 +8,7 @@ use native.Mathlib.Omega.{arith}
 use lib.Dec.{ltb, leb, eqb}
 use lib.ListN.{length, getD}
 use Rattle.system.specs.declared.Answer.the-variants.{TooLarge, BadScript}
-use Rattle.system.specs.Shape.{fits}
+use Rattle.system.specs.Shape.{withinSizes}
 use Rattle.host.specs.declared.Call.{Call}
 use Rattle.records.specs.declared.Record.{Record}
 use Rattle.records.specs.declared.MaybeCall.{MaybeCall}
@@ -56,7 +56,7 @@ shapeOf r =
     record { «num_domains» = r .dom; «vcpus_per_domain» = r .vcpu; «num_pcpus» = r .third; quantum = r .value }
 
 abbrev pub buildOf : Record → Plan
-buildOf r = cond (fits (r .dom) (r .vcpu) (r .third)) (Plan.Build (shapeOf r)) (Plan.Refuse TooLarge)
+buildOf r = cond (withinSizes (r .dom) (r .vcpu) (r .third)) (Plan.Build (shapeOf r)) (Plan.Refuse TooLarge)
 
 -- a call, if there is a host
 abbrev pub afterBuild : Bool → MaybeCall → Plan

@@ -3,16 +3,16 @@ use Prim.Native.Nat.{ℕ, _≤_, _<_}
 use mathlib.Core.Path.{_≡_, sym, _∙_, ap}
 use native.Mathlib.Omega.{arith}
 use lib.ListN.{length-replicate, getD-replicate}
-use Rattle.masks.specs.Conj.{zero-one}
+use Rattle.scan.specs.Booleans.{zero-one}
 use Rattle.system.specs.declared.RunState.the-variants.{Offline, Running}
 use Rattle.system.specs.declared.VirtualCpu.{VirtualCpu}
 use Rattle.system.specs.declared.Occupant.the-variants.{Idle, Vcpu}
 use Rattle.system.specs.declared.PhysicalCpu.{PhysicalCpu}
-use Rattle.system.specs.Shape.{offline, idle, blank, fresh}
-use Rattle.system.specs.Reads.{vcpuAt, occupantAt, pcpus}
+use Rattle.system.specs.Shape.{offlineVcpu, idle, blank, fresh}
+use Rattle.system.specs.Reads.{vcpuAt, occupantAt}
 use Rattle.system.specs.Writes.{Tables}
+use Rattle.system.specs.Slots.{pcpus, slot-below}
 use Rattle.verdict.specs.Sound.{Sound}
-use Rattle.sched.proofs.Legal.{slot-below}
 
 pub fresh-tables : (d v p : ℕ) → Tables (fresh d v p)
 unfolding fresh
@@ -20,7 +20,7 @@ fresh-tables d v p = record { vcpus = length-replicate 128 (blank p); pcpus = le
 
 pub fresh-vcpu : (d v p i : ℕ) → i < 128 → vcpuAt (fresh d v p) i ≡ blank p
 unfolding fresh vcpuAt
-fresh-vcpu d v p i h = getD-replicate 128 i (blank p) offline h
+fresh-vcpu d v p i h = getD-replicate 128 i (blank p) offlineVcpu h
 
 pub fresh-occupant : (d v p q : ℕ) → q < 64 → occupantAt (fresh d v p) q ≡ Idle
 unfolding fresh occupantAt
@@ -34,7 +34,7 @@ fresh-sound d v p hd hv hp =
       vcpus = hv;
       pcpus = hp;
       runs = λ i q h e. absurd (off (sym (ap (λ (x : VirtualCpu). x .state) (fresh-vcpu d v p i (slot-below h))) ∙ e));
-      held = λ q e u l o. absurd (free (sym (fresh-occupant d v p q (omega arith)) ∙ o));
+      occupied = λ q e u l o. absurd (free (sym (fresh-occupant d v p q (omega arith)) ∙ o));
     }
   where
     off : {q : ℕ} → Offline ≡ Running q → ⊥

@@ -1,24 +1,28 @@
 -- What a change may do to a sound system, and that it leaves a sound one. Assumes nothing.
 use Prim.Native.Nat.{ℕ, _+_, _-_, _/_, _%_, _^_, _<_, min}
-use mathlib.Core.Bool.{true}
-use mathlib.Core.Path.{_≡_, sym, _∙_, ap}
+use mathlib.Core.Bool.{true, false}
+use mathlib.Core.Path.{_≡_, sym, _∙_}
 use native.Mathlib.Omega.{arith}
 use native.Mathlib.Decide.{ℕ-discrete}
 use Rattle.masks.specs.Masks.{permits}
-use Rattle.masks.specs.Conj.{zero-one}
+use Rattle.scan.specs.Booleans.{zero-one}
 use Rattle.system.specs.declared.RunState.{RunState}
 use Rattle.system.specs.declared.RunState.the-variants.{Running}
 use Rattle.system.specs.declared.VirtualCpu.{VirtualCpu}
 use Rattle.system.specs.declared.Occupant.the-variants.{Idle, Vcpu}
 use Rattle.system.specs.declared.System.{System}
 use Rattle.system.specs.declared.Answer.{Answer}
+use Rattle.system.specs.declared.Answer.the-variants.{PcpuBusy}
+use Rattle.system.specs.Answers.{SystemOutcome}
 use Rattle.system.specs.Records.{elapsed}
-use Rattle.system.specs.Reads.{domains, vcpus, pcpus, slot, vcpuAt, occupantAt}
-use Rattle.system.specs.Writes.{SameShape, Wrote}
-use Rattle.verdict.specs.Sound.{Present, OnPcpu, Holds, Sound}
-use Rattle.sched.specs.declared.Change.{Change}
-use Rattle.sched.specs.declared.Change.the-variants.{Refuse, Write, Move}
-use Rattle.sched.specs.CanRun.{stateAt, admits, CanRun}
+use Rattle.system.specs.Reads.{vcpuAt, occupantAt, isIdle, stateAt, admits}
+use Rattle.system.specs.Writes.{Tables, Wrote, same-pcpus, present-back, present-on}
+use Rattle.system.specs.Slots.{domains, vcpus, pcpus, slot, Present, slot-of}
+use Rattle.verdict.specs.Sound.{OnPcpu, Occupies, Sound}
+use Rattle.changes.specs.declared.Change.{Change}
+use Rattle.changes.specs.declared.Change.the-variants.{Refuse, Write, Enter, Leave}
+use Rattle.sched.specs.Steps.{refused, done}
+use Rattle.sched.specs.CanRun.{CanRun}
 
 abbrev pub NotRunning : RunState → Type 0
 NotRunning st = (q : ℕ) → st ≡ Running q → ⊥
@@ -41,36 +45,15 @@ pub record Opened (old new : VirtualCpu) (p : ℕ) : Type 0 where
   pub affine : permits (new .affinity) p ≡ true
   pub time : new .runtime ≡ old .runtime
 
--- a change of the vCPU at slot i that keeps both records of who runs where in step
-pub data Legal (s : System) (i : ℕ) : Change → Type 0 where
-  stays : (a : Answer) → Legal s i (Refuse a)
-  keeps : {v : VirtualCpu} → StaysPut (vcpuAt s i) v → Legal s i (Write v)
-  goes-on : {v : VirtualCpu} {p : ℕ} → CanRun s i p → Opened (vcpuAt s i) v p → Legal s i (Move v p (Vcpu (i / 8) (i % 8)))
-  comes-off : {v : VirtualCpu} {p : ℕ} (now : ℕ) → stateAt s i ≡ Running p → Closed (vcpuAt s i) v now → Legal s i (Move v p Idle)
-
--- ---- a system of the same shape has the same vCPUs and pCPUs
-
-pub same-pcpus : {s s′ : System} → SameShape s s′ → pcpus s′ ≡ pcpus s
-same-pcpus h = ap (λ (n : ℕ). min n 64) (h .pcpus)
-
-pub present-back : {s s′ : System} {i : ℕ} → SameShape s s′ → Present s′ i → Present s i
-present-back h k = record { domain = omega (arith, h .domains, k .domain); vcpu = omega (arith, h .vcpus, k .vcpu) }
-
-pub present-on : {s s′ : System} {i : ℕ} → SameShape s s′ → Present s i → Present s′ i
-present-on h k = record { domain = omega (arith, h .domains, k .domain); vcpu = omega (arith, h .vcpus, k .vcpu) }
-
--- slots of one system are below 128, and a slot is that of one pair of ids
-pub slot-below : {s : System} {i : ℕ} → Present s i → i < 128
-slot-below h = omega (arith, h .domain)
-
-pub slot-of : (i : ℕ) → slot (i / 8) (i % 8) ≡ i
-slot-of i = omega arith
-
-pub slot-domain : (d v : ℕ) → v < 8 → slot d v / 8 ≡ d
-slot-domain d v h = omega arith
-
-pub slot-vcpu : (d v : ℕ) → v < 8 → slot d v % 8 ≡ v
-slot-vcpu d v h = omega arith
+-- a change of the vCPU at slot i that keeps both records of who runs where in step, and what it leaves
+pub data Legal (s : System) (i : ℕ) : Change → SystemOutcome → Type 0 where
+  stays : (a : Answer) → Legal s i (Refuse a) (refused a s)
+  keeps : {v : VirtualCpu} {s′ : System} → StaysPut (vcpuAt s i) v → (Tables s → Wrote s s′ i v 0 (occupantAt s 0)) → Legal s i (Write v) (done s′)
+  busy : {v : VirtualCpu} {p : ℕ} → p < pcpus s → isIdle (occupantAt s p) ≡ false → Legal s i (Enter v p) (refused PcpuBusy s)
+  goes-on : {v : VirtualCpu} {p : ℕ} {s′ : System} → CanRun s i p → Opened (vcpuAt s i) v p
+      → (Tables s → Wrote s s′ i v p (Vcpu (i / 8) (i % 8))) → Legal s i (Enter v p) (done s′)
+  comes-off : {v : VirtualCpu} {p : ℕ} {s′ : System} (now : ℕ) → stateAt s i ≡ Running p → Closed (vcpuAt s i) v now
+      → (Tables s → Wrote s s′ i v p Idle) → Legal s i (Leave v p) (done s′)
 
 module _ {s s′ : System} {i p : ℕ} {v : VirtualCpu} where
   -- a vCPU goes onto an idle pCPU
@@ -82,7 +65,7 @@ module _ {s s′ : System} {i p : ℕ} {v : VirtualCpu} where
         vcpus = omega (arith, w .shape .vcpus, S .vcpus);
         pcpus = omega (arith, w .shape .pcpus, S .pcpus);
         runs = λ j q h e. runs′ j q h e (ℕ-discrete j i);
-        held = λ q d u l e. held′ q d u l e (ℕ-discrete q p);
+        occupied = λ q d u l e. occupied′ q d u l e (ℕ-discrete q p);
       }
     where
       room : pcpus s′ ≡ pcpus s
@@ -100,16 +83,16 @@ module _ {s s′ : System} {i p : ℕ} {v : VirtualCpu} where
           let k = o .exists in
           record { exists = omega arith; back = cc; admits = cc }
 
-      held′ : (q d u : ℕ) → q < pcpus s′ → occupantAt s′ q ≡ Vcpu d u → Dec (q ≡ p) → Holds s′ q d u
-      held′ q d u l e (yes q≡p) =
+      occupied′ : (q d u : ℕ) → q < pcpus s′ → occupantAt s′ q ≡ Vcpu d u → Dec (q ≡ p) → Occupies s′ q d u
+      occupied′ q d u l e (yes q≡p) =
           let a : d ≡ i / 8 = cc in
           let b : u ≡ i % 8 = cc in
           let j : slot d u ≡ i = omega arith in
           let k = present-on (w .shape) (c .present) in
           record { domain = omega (arith, k .domain); vcpu = omega (arith, k .vcpu); on = cc }
-      held′ q d u l e (no q≢p) =
+      occupied′ q d u l e (no q≢p) =
           let g = w .others q q≢p in
-          let h = S .held q d u (omega arith) (sym g ∙ e) in
+          let h = S .occupied q d u (omega arith) (sym g ∙ e) in
           let r = h .on in
           let f = w .there (slot d u) (λ (x : slot d u ≡ i). zero-one cc) in
           record { domain = omega (arith, w .shape .domains, h .domain); vcpu = omega (arith, w .shape .vcpus, h .vcpu); on = cc }
@@ -122,7 +105,7 @@ module _ {s s′ : System} {i p : ℕ} {v : VirtualCpu} where
         vcpus = omega (arith, w .shape .vcpus, S .vcpus);
         pcpus = omega (arith, w .shape .pcpus, S .pcpus);
         runs = λ j q h e. runs′ j q h e (ℕ-discrete j i);
-        held = λ q d u l e. held′ q d u l e (ℕ-discrete q p);
+        occupied = λ q d u l e. occupied′ q d u l e (ℕ-discrete q p);
       }
     where
       room : pcpus s′ ≡ pcpus s
@@ -140,11 +123,11 @@ module _ {s s′ : System} {i p : ℕ} {v : VirtualCpu} where
           let k = o .exists in
           record { exists = omega arith; back = cc; admits = cc }
 
-      held′ : (q d u : ℕ) → q < pcpus s′ → occupantAt s′ q ≡ Vcpu d u → Dec (q ≡ p) → Holds s′ q d u
-      held′ q d u l e (yes q≡p) = absurd (zero-one cc)
-      held′ q d u l e (no q≢p) =
+      occupied′ : (q d u : ℕ) → q < pcpus s′ → occupantAt s′ q ≡ Vcpu d u → Dec (q ≡ p) → Occupies s′ q d u
+      occupied′ q d u l e (yes q≡p) = absurd (zero-one cc)
+      occupied′ q d u l e (no q≢p) =
           let g = w .others q q≢p in
-          let h = S .held q d u (omega arith) (sym g ∙ e) in
+          let h = S .occupied q d u (omega arith) (sym g ∙ e) in
           let r = h .on in
           let f = w .there (slot d u) (λ (x : slot d u ≡ i). q≢p (cc)) in
           record { domain = omega (arith, w .shape .domains, h .domain); vcpu = omega (arith, w .shape .vcpus, h .vcpu); on = cc }
@@ -157,7 +140,7 @@ module _ {s s′ : System} {i p : ℕ} {v : VirtualCpu} where
         vcpus = omega (arith, w .shape .vcpus, S .vcpus);
         pcpus = omega (arith, w .shape .pcpus, S .pcpus);
         runs = λ j q h e. runs′ j q h e (ℕ-discrete j i);
-        held = λ q d u l e. held′ q d u l e (ℕ-discrete (slot d u) i);
+        occupied = λ q d u l e. occupied′ q d u l e (ℕ-discrete (slot d u) i);
       }
     where
       room : pcpus s′ ≡ pcpus s
@@ -183,16 +166,16 @@ module _ {s s′ : System} {i p : ℕ} {v : VirtualCpu} where
           let x = o .exists in
           record { exists = omega arith; back = cc; admits = cc }
 
-      held′ : (q d u : ℕ) → q < pcpus s′ → occupantAt s′ q ≡ Vcpu d u → Dec (slot d u ≡ i) → Holds s′ q d u
-      held′ q d u l e (yes x) =
+      occupied′ : (q d u : ℕ) → q < pcpus s′ → occupantAt s′ q ≡ Vcpu d u → Dec (slot d u ≡ i) → Occupies s′ q d u
+      occupied′ q d u l e (yes x) =
           let g = same q (ℕ-discrete q p) in
-          let h = S .held q d u (omega arith) (sym g ∙ e) in
+          let h = S .occupied q d u (omega arith) (sym g ∙ e) in
           let r = h .on in
           let b = k .still q (cc) in
           record { domain = omega (arith, w .shape .domains, h .domain); vcpu = omega (arith, w .shape .vcpus, h .vcpu); on = cc }
-      held′ q d u l e (no n) =
+      occupied′ q d u l e (no n) =
           let g = same q (ℕ-discrete q p) in
-          let h = S .held q d u (omega arith) (sym g ∙ e) in
+          let h = S .occupied q d u (omega arith) (sym g ∙ e) in
           let r = h .on in
           let f = w .there (slot d u) n in
           record { domain = omega (arith, w .shape .domains, h .domain); vcpu = omega (arith, w .shape .vcpus, h .vcpu); on = cc }

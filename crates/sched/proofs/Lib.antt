@@ -1,9 +1,10 @@
-pub mod Lookup
-pub mod Turns
-pub mod Stored
-pub mod Legal
-pub mod Requests
-pub mod Cases
-pub mod Runtime
-pub mod Kept
-pub mod Fresh
+pub mod Laws
+mod Lookup
+mod OfflineAllLoop
+mod Stores
+mod Legal
+mod LegalRequests
+mod Cases
+mod Runtime
+mod Invariants
+mod Fresh

@@ -6,14 +6,17 @@ use native.Mathlib.Decide.{ℕ-discrete}
 use Rattle.system.specs.declared.VirtualCpu.{VirtualCpu}
 use Rattle.system.specs.declared.Occupant.{Occupant}
 use Rattle.system.specs.declared.System.{System}
-use Rattle.system.specs.Writes.{Tables, Wrote, wrote-vcpu, wrote-both}
-use Rattle.verdict.specs.Sound.{Present, Sound}
-use Rattle.sched.specs.declared.Change.{Change}
-use Rattle.sched.specs.Steps.{applied}
-use Rattle.sched.proofs.Legal.{Legal, stays, keeps, goes-on, comes-off, slot-below}
-use Rattle.sched.specs.Keeps.{runtimeAt, Grows}
+use Rattle.system.specs.Answers.{SystemOutcome}
+use Rattle.system.specs.Writes.{Tables, Wrote}
+use Rattle.system.specs.Reads.{runtimeAt}
+use Rattle.changes.specs.declared.Change.{Change}
+use Rattle.sched.proofs.Legal.{Legal, stays, keeps, busy, goes-on, comes-off}
+use Rattle.sched.specs.Invariants.{Grows}
 
-module _ {s : System} {i : ℕ} (t : Tables s) (S : Sound s) (h : Present s i) (w : (j : ℕ) → runtimeAt s j < 2 ^ 64) where
+pub same-times : {s : System} → ((j : ℕ) → runtimeAt s j < 2 ^ 64) → Grows s s
+same-times w = record { time = λ j. omega arith; word = w }
+
+module _ {s : System} {i : ℕ} (t : Tables s) (w : (j : ℕ) → runtimeAt s j < 2 ^ 64) where
   wrote-grows : {s′ : System} {v : VirtualCpu} {p : ℕ} {o : Occupant} → Wrote s s′ i v p o → runtimeAt s i ≤ v .runtime → v .runtime < 2 ^ 64 → Grows s s′
   wrote-grows {s′} {v} k l m = record { time = λ j. time′ j (ℕ-discrete j i); word = λ j. word′ j (ℕ-discrete j i) }
     where
@@ -28,12 +31,9 @@ module _ {s : System} {i : ℕ} (t : Tables s) (S : Sound s) (h : Present s i) (
       word′ j (yes e) = rw e (omega (arith, here))
       word′ j (no n) = omega (arith, ap (λ (x : VirtualCpu). x .runtime) (k .there j n), w j)
 
-  pub applied-grows : {c : Change} → Legal s i c → Grows s ((applied s i c) .system)
-  unfolding applied
-  applied-grows (stays a) = record { time = λ j. omega arith; word = w }
-  applied-grows (keeps {v} k) = wrote-grows (wrote-vcpu s i v 0 t (slot-below h)) (omega (arith, k .time)) (omega (arith, k .time, w i))
-  applied-grows (goes-on {v} {p} c o) =
-      wrote-grows (wrote-both s i v p _ t (slot-below h) (omega (arith, c .exists))) (omega (arith, o .time)) (omega (arith, o .time, w i))
-  applied-grows (comes-off {v} {p} now on k) =
-      let o = S .runs i p h on in
-      wrote-grows (wrote-both s i v p _ t (slot-below h) (omega (arith, o .exists))) (omega (arith, k .time, w i)) (omega (arith, k .time))
+  pub grows : {c : Change} {r : SystemOutcome} → Legal s i c r → Grows s (r .system)
+  grows (stays a) = same-times w
+  grows (keeps k wr) = wrote-grows (wr t) (omega (arith, k .time)) (omega (arith, k .time, w i))
+  grows (busy l e) = same-times w
+  grows (goes-on c o wr) = wrote-grows (wr t) (omega (arith, o .time)) (omega (arith, o .time, w i))
+  grows (comes-off now on k wr) = wrote-grows (wr t) (omega (arith, k .time, w i)) (omega (arith, k .time))

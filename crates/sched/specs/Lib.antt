@@ -1,6 +1,5 @@
-pub mod Records
 pub mod Steps
-pub mod Slots
+pub mod Internal
 pub mod Answered
-pub mod Keeps
+pub mod Invariants
 pub mod CanRun

@@ -1,2 +1,3 @@
-pub mod Appending
-pub mod Turns
+pub mod Laws
+mod LineAppends
+mod ReplayLoop

@@ -9,11 +9,11 @@ use lib.ListN.{length, drop, length-drop}
 use lib.Seq.{drop-append-le, drop-append-seam, drop-drop}
 use Rattle.records.specs.Laws.{plan-front}
 use Rattle.script.specs.declared.Script.{Script}
-use Rattle.script.specs.Script.{next, entry, after, text}
+use Rattle.script.specs.Script.{scriptNext, entry, scriptAfter, text}
 
 -- a record is told the same whatever follows it
-next-front : (c : Script) (bs cs : List ℕ) → 20 ≤ length bs → next c (bs ++ cs) ≡ next c bs
-unfolding next
+next-front : (c : Script) (bs cs : List ℕ) → 20 ≤ length bs → scriptNext c (bs ++ cs) ≡ scriptNext c bs
+unfolding scriptNext
 next-front c bs cs l = rw (plan-front (c .built) bs cs l)
 
 entry-front : (s : Bool) (c : Script) (bs cs : List ℕ) → 20 ≤ length bs → entry s c (bs ++ cs) ≡ entry s c bs
@@ -25,19 +25,19 @@ left-front : (bs cs : List ℕ) (m n : ℕ) → length bs ≡ m * 20 → n ≤ m
 left-front bs cs m n e l = drop-append-le (n * 20) bs cs (omega arith)
 
 -- n of m records, whatever follows the m
-pub after-front : (c : Script) (bs cs : List ℕ) (m n : ℕ) → length bs ≡ m * 20 → n ≤ m → after c (bs ++ cs) n ≡ after c bs n
-unfolding after
+pub after-front : (c : Script) (bs cs : List ℕ) (m n : ℕ) → length bs ≡ m * 20 → n ≤ m → scriptAfter c (bs ++ cs) n ≡ scriptAfter c bs n
+unfolding scriptAfter
 after-front c bs cs m zero e l = refl
 after-front c bs cs m (suc n) e l =
-    ap₂ next (after-front c bs cs m n e (omega arith)) (left-front bs cs m n e (omega arith))
-    ∙ next-front (after c bs n) (drop (n * 20) bs) cs (omega (arith, length-drop (n * 20) bs))
+    ap₂ scriptNext (after-front c bs cs m n e (omega arith)) (left-front bs cs m n e (omega arith))
+    ∙ next-front (scriptAfter c bs n) (drop (n * 20) bs) cs (omega (arith, length-drop (n * 20) bs))
 
 pub text-front : (s : Bool) (c : Script) (bs cs : List ℕ) (m n : ℕ) → length bs ≡ m * 20 → n ≤ m → text s c (bs ++ cs) n ≡ text s c bs n
 unfolding text
 text-front s c bs cs m zero e l = refl
 text-front s c bs cs m (suc n) e l =
     let here = ap₂ (entry s) (after-front c bs cs m n e (omega arith)) (left-front bs cs m n e (omega arith)) in
-    let same = entry-front s (after c bs n) (drop (n * 20) bs) cs (omega (arith, length-drop (n * 20) bs)) in
+    let same = entry-front s (scriptAfter c bs n) (drop (n * 20) bs) cs (omega (arith, length-drop (n * 20) bs)) in
     ap₂ _++_ (text-front s c bs cs m n e (omega arith)) (here ∙ same)
 
 -- what is left after m records and n more, where the m are bs
@@ -47,16 +47,17 @@ left-then bs cs m n e =
     ap (λ k. drop k (bs ++ cs)) sum ∙ sym (drop-drop (n * 20) (length bs) (bs ++ cs)) ∙ ap (drop (n * 20)) (drop-append-seam bs cs)
 
 -- m records, and then n: the script after them, and their text
-pub after-then : (c : Script) (bs cs : List ℕ) (m n : ℕ) → length bs ≡ m * 20 → after c (bs ++ cs) (m + n) ≡ after (after c bs m) cs n
-unfolding after
+pub after-then : (c : Script) (bs cs : List ℕ) (m n : ℕ) → length bs ≡ m * 20
+    → scriptAfter c (bs ++ cs) (m + n) ≡ scriptAfter (scriptAfter c bs m) cs n
+unfolding scriptAfter
 after-then c bs cs m zero e = rw (add-zero m) (after-front c bs cs m m e (omega arith))
-after-then c bs cs m (suc n) e = rw (add-suc m n) (ap₂ next (after-then c bs cs m n e) (left-then bs cs m n e))
+after-then c bs cs m (suc n) e = rw (add-suc m n) (ap₂ scriptNext (after-then c bs cs m n e) (left-then bs cs m n e))
 
 pub text-then : (s : Bool) (c : Script) (bs cs : List ℕ) (m n : ℕ) → length bs ≡ m * 20
-    → text s c (bs ++ cs) (m + n) ≡ text s c bs m ++ text s (after c bs m) cs n
+    → text s c (bs ++ cs) (m + n) ≡ text s c bs m ++ text s (scriptAfter c bs m) cs n
 unfolding text
 text-then s c bs cs m zero e = rw (add-zero m) (text-front s c bs cs m m e (omega arith) ∙ sym (append-nil (text s c bs m)))
 text-then s c bs cs m (suc n) e =
     rw (add-suc m n)
     (ap₂ _++_ (text-then s c bs cs m n e) (ap₂ (entry s) (after-then c bs cs m n e) (left-then bs cs m n e))
-    ∙ append-assoc (text s c bs m) (text s (after c bs m) cs n) (entry s (after (after c bs m) cs n) (drop (n * 20) cs)))
+    ∙ append-assoc (text s c bs m) (text s (scriptAfter c bs m) cs n) (entry s (scriptAfter (scriptAfter c bs m) cs n) (drop (n * 20) cs)))

@@ -9,7 +9,9 @@ use Rattle.system.specs.declared.VirtualCpu.{VirtualCpu}
 use Rattle.system.specs.declared.Occupant.{Occupant}
 use Rattle.system.specs.declared.Occupant.the-variants.{Idle, Vcpu}
 use Rattle.system.specs.declared.System.{System}
-use Rattle.system.specs.Reads.{domains, vcpus, pcpus, vcpuAt, occupantAt}
+use Rattle.system.specs.Reads.{vcpuAt, occupantAt}
+use Rattle.system.specs.Slots.{domains, vcpus, pcpus}
+use Rattle.system.specs.States.{whileRunning}
 use Rattle.policy.specs.declared.Scheduler.{Scheduler}
 use Rattle.policy.specs.Accounts.{weightOf}
 use Rattle.host.specs.declared.Host.{Host}
@@ -23,17 +25,11 @@ stateNumber Blocked = 3
 
 -- the pCPU of a vCPU, 64 unless it is Running
 abbrev pub pcpuNumber : RunState → ℕ
-pcpuNumber Offline = 64
-pcpuNumber Runnable = 64
-pcpuNumber (Running p) = p
-pcpuNumber Blocked = 64
+pcpuNumber st = whileRunning st (λ p. p) 64
 
 -- since when it runs, 0 unless it is Running
 abbrev pub clockNumber : ℕ → RunState → ℕ
-clockNumber t Offline = 0
-clockNumber t Runnable = 0
-clockNumber t (Running p) = t
-clockNumber t Blocked = 0
+clockNumber t st = whileRunning st (λ p. t) 0
 
 -- domain, vCPU, state, pCPU, clock, run time, mask, weight
 abbrev pub vcpuNumbers : ℕ → ℕ → VirtualCpu → ℕ → List ℕ

@@ -7,7 +7,7 @@ use lib.ListN.{length, drop}
 use Rattle.system.specs.Answers.{told}
 use Rattle.host.specs.declared.Host.{Host}
 use Rattle.host.specs.Step.{step, freshHost}
-use Rattle.host.specs.Handed.{Handed, counted, built}
+use Rattle.host.specs.Outcomes.{HostOutcome, stepCounted, builtHost}
 use Rattle.records.specs.declared.Plan.{Plan}
 use Rattle.records.specs.Records.{planOf}
 use Rattle.text.specs.Lines.{answerLine}
@@ -21,10 +21,10 @@ abbrev pub begun : Script
 begun = record { number = 0; built = false; host = freshHost 0 0 0 0 0 0 }
 
 -- what a host is told: a refused record leaves it as it is
-unfoldable pub carried : Host → Plan → Handed
+unfoldable pub carried : Host → Plan → HostOutcome
 carried h (Plan.Refuse a) = record { number = told a; host = h; count = 0 }
-carried h (Plan.Build s) = built (s .«num_domains») (s .«vcpus_per_domain») (s .«num_pcpus») (s .quantum)
-carried h (Plan.Call c) = counted (step h c)
+carried h (Plan.Build s) = builtHost (s .«num_domains») (s .«vcpus_per_domain») (s .«num_pcpus») (s .quantum)
+carried h (Plan.Call c) = stepCounted (step h c)
 
 -- whether there is a host after it
 abbrev pub builtAfter : Bool → Plan → Bool
@@ -36,11 +36,11 @@ builtAfter b (Plan.Call c) = b
 abbrev pub plan : Script → List ℕ → Plan
 plan c bs = planOf (c .built) bs
 
-abbrev pub answered : Script → List ℕ → Handed
+abbrev pub answered : Script → List ℕ → HostOutcome
 answered c bs = carried (c .host) (plan c bs)
 
-unfoldable pub next : Script → List ℕ → Script
-next c bs =
+unfoldable pub scriptNext : Script → List ℕ → Script
+scriptNext c bs =
     record {
       number = (c .number + 1) % 2 ^ 64;
       built = builtAfter (c .built) (plan c bs);
@@ -55,16 +55,16 @@ abbrev pub hostShown : Bool → Script → List ℕ
 hostShown states c = cond (states && c .built) (hostText (c .host)) []
 
 unfoldable pub entry : Bool → Script → List ℕ → List ℕ
-entry states c bs = lineTold c bs ++ hostShown states (next c bs)
+entry states c bs = lineTold c bs ++ hostShown states (scriptNext c bs)
 
 -- the script after n records, and the text of them; a record has 20 bytes
-unfoldable pub after : Script → List ℕ → ℕ → Script
-after c bs zero = c
-after c bs (suc n) = next (after c bs n) (drop (n * 20) bs)
+unfoldable pub scriptAfter : Script → List ℕ → ℕ → Script
+scriptAfter c bs zero = c
+scriptAfter c bs (suc n) = scriptNext (scriptAfter c bs n) (drop (n * 20) bs)
 
 unfoldable pub text : Bool → Script → List ℕ → ℕ → List ℕ
 text states c bs zero = []
-text states c bs (suc n) = text states c bs n ++ entry states (after c bs n) (drop (n * 20) bs)
+text states c bs (suc n) = text states c bs n ++ entry states (scriptAfter c bs n) (drop (n * 20) bs)
 
 -- how many records some bytes are: the last may be cut off
 abbrev pub recordsIn : List ℕ → ℕ
@@ -85,7 +85,7 @@ takenOf number built h records written =
 
 -- what a replay of n records hands back, and what it leaves of the bytes that it writes over
 pub record Replayed (states : Bool) (c : Script) (bs : List ℕ) (n : ℕ) (before : List ℕ) (r : Taken) (out : List ℕ) : Type 0 where
-  pub script : r .script ≡ after c bs n
+  pub script : r .script ≡ scriptAfter c bs n
   pub records : r .records ≡ n
   pub placed : Placed before 0 (text states c bs n) out (r .written)
   pub whole : r .written ≤ length out

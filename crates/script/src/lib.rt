@@ -6,8 +6,8 @@ ghost use mathlib.Core.Bool.{_&&_};
 ghost use Prim.Native.Nat.{_+_, _*_, _/_, _≤_, _<_};
 ghost use lib.ListN.{length, drop};
 ghost use Rattle.system.specs.Answers.{told};
-ghost use Rattle.system.specs.Reads.{domains, pcpus};
-ghost use Rattle.host.specs.Handed.{handed, built};
+ghost use Rattle.system.specs.Slots.{domains, pcpus};
+ghost use Rattle.host.specs.Outcomes.{hostOutcome, builtHost};
 ghost use Rattle.records.specs.Records.{planOf};
 ghost use Rattle.text.specs.Lines.{answerLine};
 ghost use Rattle.text.specs.Places.{Placed};
@@ -58,7 +58,7 @@ impl Script {
 // ---- one record
 
 fn built_of(shape: Shape) -> Outcome
-    ensures { λ r. ⌜ handed r ≡ built (shape .«num_domains») (shape .«vcpus_per_domain») (shape .«num_pcpus») (shape .quantum) ⌝ }
+    ensures { λ r. ⌜ hostOutcome r ≡ builtHost (shape .«num_domains») (shape .«vcpus_per_domain») (shape .«num_pcpus») (shape .quantum) ⌝ }
 {
     Host::new(
         shape.num_domains,
@@ -145,12 +145,12 @@ fn put_vcpu(out: &mut [u8], at: usize, i: usize, k: usize, v: VirtualCpu, weight
     text::append(out, at, line)
 }
 
-fn put_pcpu(out: &mut [u8], at: usize, p: usize, held: PhysicalCpu) -> usize
+fn put_pcpu(out: &mut [u8], at: usize, p: usize, c: PhysicalCpu) -> usize
     requires { ⌜ at + 66 ≤ length (now out) ⌝ }
-    ensures { λ r. ⌜ Placed (now (out .entry)) at (pcpuRow p (held .occupant)) (now (out .exit)) r ⌝ }
+    ensures { λ r. ⌜ Placed (now (out .entry)) at (pcpuRow p (c .occupant)) (now (out .exit)) r ⌝ }
     ensures { λ r. ⌜ r ≤ at + 66 ⌝ }
 {
-    let occupant = held.occupant;
+    let occupant = c.occupant;
     match occupant {
         Occupant::Idle => at,
         Occupant::Vcpu { dom, vcpu } => {
@@ -188,8 +188,8 @@ fn put_pcpus(out: &mut [u8], at: usize, s: System) -> usize
     let mut past = at;
     let mut p: usize = 0;
     while p < n {
-        let held = s.pcpus[p];
-        past = put_pcpu(out, past, p, held);
+        let c = s.pcpus[p];
+        past = put_pcpu(out, past, p, c);
         p += 1;
     }
     past

@@ -1,4 +1,4 @@
 mod Arithmetic
-mod Holding
+mod Saturation
 mod Order
 mod Examples

@@ -1,3 +1,4 @@
 pub mod Service
 pub mod Laws
-pub mod Columns
+pub mod Internal
+pub mod Fractions

@@ -5,7 +5,7 @@ ghost use mathlib.Core.Path.{_≡_};
 ghost use Prim.Native.Nat.{_+_, _*_, _-_, _/_, _%_, _^_, _<_, max};
 ghost use lib.Dec.{ltb};
 ghost use Rattle.service.specs.Service.{value, held, moreDeserving};
-ghost use Rattle.service.specs.Columns.{worth, Small, Roomy, Carries, Splits};
+ghost use Rattle.service.specs.Internal.{worth, Small, Roomy, Carries, Splits};
 
 /// A service, as four limbs, the least first.
 pub type Service = [u32; 4];
@@ -232,6 +232,13 @@ fn narrow_product(x: u64, weight: u32) -> Narrow
 fn narrow_deserving(x: u64, w: u32, y: u64, v: u32) -> bool
     ensures { λ r. ⌜ r ≡ ltb (x * v) (y * w) ⌝ }
 {
+    if x < 0x1_0000_0000 {
+        if y < 0x1_0000_0000 {
+            let p = x * (v as u64);
+            let q = y * (w as u64);
+            return p < q;
+        }
+    }
     let Narrow { high: a, low: b } = narrow_product(x, v);
     let Narrow { high: c, low: d } = narrow_product(y, w);
     if a == c { b < d } else { a < c }

@@ -20,9 +20,9 @@ told Unsound = 8
 told BadScript = 9
 
 -- the number told, and the system that the call leaves
-pub record Outcome : Type 0 where
+pub record SystemOutcome : Type 0 where
   pub number : ℕ
   pub system : System
 
-abbrev pub outcome : Stepped → Outcome
-outcome r = record { number = told (r .answer); system = r .system }
+abbrev pub systemOutcome : Stepped → SystemOutcome
+systemOutcome r = record { number = told (r .answer); system = r .system }

@@ -1,5 +1,5 @@
 -- What can be read of a system, damaged or not.
-use Prim.Native.Nat.{ℕ, zero, suc, _+_, _*_, min}
+use Prim.Native.Nat.{ℕ, zero, suc, _+_, min}
 use mathlib.Core.Bool.{Bool, true, false, cond, not, _&&_, false≢true}
 use mathlib.Core.Path.{_≡_, refl}
 use mathlib.Core.List.{List}
@@ -7,7 +7,6 @@ use lib.Dec.{ltb}
 use lib.ListN.{getD}
 use Rattle.masks.specs.Masks.{permits, fullMask}
 use Rattle.system.specs.declared.RunState.{RunState}
-use Rattle.system.specs.declared.RunState.the-variants.{Offline, Runnable, Running, Blocked}
 use Rattle.system.specs.declared.VirtualCpu.{VirtualCpu}
 use Rattle.system.specs.declared.Occupant.{Occupant}
 use Rattle.system.specs.declared.Occupant.the-variants.{Idle, Vcpu}
@@ -16,28 +15,30 @@ use Rattle.system.specs.declared.System.{System}
 use Rattle.system.specs.declared.MaybeVcpu.{MaybeVcpu}
 use Rattle.system.specs.declared.MaybeState.{MaybeState}
 use Rattle.system.specs.declared.MaybeU64.{MaybeU64}
-use Rattle.system.specs.Shape.{offline, idle}
-
--- a count that is read is held at its size
-abbrev pub domains : System → ℕ
-domains s = min (s .«domain_count») 16
-
-abbrev pub vcpus : System → ℕ
-vcpus s = min (s .«vcpus_per_domain») 8
-
-abbrev pub pcpus : System → ℕ
-pcpus s = min (s .«pcpu_count») 64
-
--- vCPU d/v stands at d × 8 + v
-abbrev pub slot : ℕ → ℕ → ℕ
-slot d v = d * 8 + v
+use Rattle.system.specs.States.{whileRunning, schedulable}
+use Rattle.system.specs.Shape.{offlineVcpu, idle}
+use Rattle.system.specs.Slots.{domains, vcpus, pcpus, slot}
 
 -- what stands at a slot, and who holds a pCPU
 unfoldable pub vcpuAt : System → ℕ → VirtualCpu
-vcpuAt s i = getD (s .vcpus) i offline
+vcpuAt s i = getD (s .vcpus) i offlineVcpu
 
 unfoldable pub occupantAt : System → ℕ → Occupant
 occupantAt s p = (getD (s .pcpus) p idle) .occupant
+
+abbrev pub stateAt : System → ℕ → RunState
+stateAt s i = (vcpuAt s i) .state
+
+abbrev pub runtimeAt : System → ℕ → ℕ
+runtimeAt s i = (vcpuAt s i) .runtime
+
+-- the mask of the vCPU at slot i admits pCPU p
+abbrev pub admits : System → ℕ → ℕ → Bool
+admits s i p = permits ((vcpuAt s i) .affinity) p
+
+-- it is in the pool
+abbrev pub pooled : System → ℕ → Bool
+pooled s i = schedulable (stateAt s i)
 
 abbrev pub isIdle : Occupant → Bool
 isIdle Idle = true
@@ -46,6 +47,10 @@ isIdle (Vcpu d v) = false
 pub is-idle : (o : Occupant) → isIdle o ≡ true → o ≡ Idle
 is-idle Idle e = refl
 is-idle (Vcpu d v) e = absurd (false≢true e)
+
+-- pCPU p exists and is idle
+abbrev pub idleAt : System → ℕ → Bool
+idleAt s p = ltb p (pcpus s) && isIdle (occupantAt s p)
 
 -- an id at or above its count is absent
 unfoldable pub vcpuOf : System → ℕ → ℕ → MaybeVcpu
@@ -63,10 +68,7 @@ stateOf s d v = stateIn (vcpuOf s d v)
 
 abbrev pub runs : MaybeState → Bool
 runs MaybeState.None = false
-runs (MaybeState.Some Offline) = false
-runs (MaybeState.Some Runnable) = false
-runs (MaybeState.Some (Running p)) = true
-runs (MaybeState.Some Blocked) = false
+runs (MaybeState.Some st) = whileRunning st (λ p. true) false
 
 abbrev pub isRunning : System → ℕ → ℕ → Bool
 isRunning s d v = runs (stateOf s d v)
@@ -80,10 +82,7 @@ runtimeOf s d v = runtimeIn (vcpuOf s d v)
 
 -- the clock of a Running vCPU's dispatch
 abbrev pub since : RunState → ℕ → MaybeU64
-since Offline t = MaybeU64.None
-since Runnable t = MaybeU64.None
-since (Running p) t = MaybeU64.Some t
-since Blocked t = MaybeU64.None
+since st t = whileRunning st (λ p. MaybeU64.Some t) MaybeU64.None
 
 abbrev pub sinceIn : MaybeVcpu → MaybeU64
 sinceIn MaybeVcpu.None = MaybeU64.None

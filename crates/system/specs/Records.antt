@@ -1,8 +1,8 @@
 -- One vCPU's record, and how long it has run.
 use Prim.Native.Nat.{ℕ, _+_, _-_}
 use Rattle.system.specs.declared.RunState.{RunState}
-use Rattle.system.specs.declared.RunState.the-variants.{Offline, Runnable, Running, Blocked}
 use Rattle.system.specs.declared.VirtualCpu.{VirtualCpu}
+use Rattle.system.specs.States.{whileRunning}
 
 -- with another mask
 abbrev pub withMask : VirtualCpu → ℕ → VirtualCpu
@@ -14,10 +14,7 @@ elapsed v now = now - v .«dispatched_at»
 
 -- the part in flight: max(0, now − dispatched) while Running
 abbrev pub flight : VirtualCpu → ℕ → RunState → ℕ
-flight v now Offline = 0
-flight v now Runnable = 0
-flight v now (Running p) = elapsed v now
-flight v now Blocked = 0
+flight v now st = whileRunning st (λ p. elapsed v now) 0
 
 unfoldable pub inFlight : VirtualCpu → ℕ → ℕ
 inFlight v now = flight v now (v .state)

@@ -10,24 +10,24 @@ use Rattle.system.specs.declared.Occupant.the-variants.{Idle}
 use Rattle.system.specs.declared.PhysicalCpu.{PhysicalCpu}
 use Rattle.system.specs.declared.System.{System}
 use Rattle.system.specs.declared.Answer.the-variants.{Done, TooLarge}
-use Rattle.system.specs.Answers.{told, Outcome}
+use Rattle.system.specs.Answers.{told, SystemOutcome}
 use Rattle.system.specs.Records.{withMask}
 
 -- what every vCPU record starts from
-abbrev pub offline : VirtualCpu
-offline = record { state = Offline; runtime = 0; «dispatched_at» = 0; affinity = 0 }
+abbrev pub offlineVcpu : VirtualCpu
+offlineVcpu = record { state = Offline; runtime = 0; «dispatched_at» = 0; affinity = 0 }
 
 -- a pCPU that nobody holds
 abbrev pub idle : PhysicalCpu
 idle = record { occupant = Idle }
 
 -- 0 to 16 domains, 0 to 8 vCPUs in each, 0 to 64 pCPUs
-abbrev pub fits : ℕ → ℕ → ℕ → Bool
-fits d v p = leb d 16 && (leb v 8 && leb p 64)
+abbrev pub withinSizes : ℕ → ℕ → ℕ → Bool
+withinSizes d v p = leb d 16 && (leb v 8 && leb p 64)
 
 -- a vCPU as built on a host of p pCPUs: Offline, every pCPU admitted
 abbrev pub blank : ℕ → VirtualCpu
-blank p = withMask offline (fullMask p)
+blank p = withMask offlineVcpu (fullMask p)
 
 -- a system as built
 unfoldable pub fresh : ℕ → ℕ → ℕ → System
@@ -41,6 +41,6 @@ fresh d v p =
     }
 
 -- a shape above the sizes is told 7, beside the system of no domains, vCPUs and pCPUs
-abbrev pub built : ℕ → ℕ → ℕ → Outcome
-built d v p =
-    cond (fits d v p) (record { number = told Done; system = fresh d v p }) (record { number = told TooLarge; system = fresh 0 0 0 })
+abbrev pub builtSystem : ℕ → ℕ → ℕ → SystemOutcome
+builtSystem d v p =
+    cond (withinSizes d v p) (record { number = told Done; system = fresh d v p }) (record { number = told TooLarge; system = fresh 0 0 0 })

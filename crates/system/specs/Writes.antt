@@ -1,5 +1,5 @@
 -- What a write of one vCPU record, and of one pCPU's occupant, leaves. Assumes nothing.
-use Prim.Native.Nat.{ℕ, _<_}
+use Prim.Native.Nat.{ℕ, _<_, min}
 use mathlib.Core.Path.{_≡_, refl, ap, _∙_}
 use native.Mathlib.Omega.{arith}
 use mathlib.Core.Logic.{_≢_}
@@ -9,7 +9,8 @@ use Rattle.system.specs.declared.VirtualCpu.{VirtualCpu}
 use Rattle.system.specs.declared.Occupant.{Occupant}
 use Rattle.system.specs.declared.PhysicalCpu.{PhysicalCpu}
 use Rattle.system.specs.declared.System.{System}
-use Rattle.system.specs.Shape.{offline, idle}
+use Rattle.system.specs.Shape.{offlineVcpu, idle}
+use Rattle.system.specs.Slots.{pcpus, Present}
 use Rattle.system.specs.Reads.{vcpuAt, occupantAt}
 
 -- the system with another record at slot i
@@ -58,6 +59,16 @@ shape-trans x y =
       tables = λ t. y .tables (x .tables t);
     }
 
+-- a system of the same shape has the same vCPUs and pCPUs
+pub same-pcpus : {s s′ : System} → SameShape s s′ → pcpus s′ ≡ pcpus s
+same-pcpus h = ap (λ (n : ℕ). min n 64) (h .pcpus)
+
+pub present-back : {s s′ : System} {i : ℕ} → SameShape s s′ → Present s′ i → Present s i
+present-back h k = record { domain = omega (arith, h .domains, k .domain); vcpu = omega (arith, h .vcpus, k .vcpu) }
+
+pub present-on : {s s′ : System} {i : ℕ} → SameShape s s′ → Present s i → Present s′ i
+present-on h k = record { domain = omega (arith, h .domains, k .domain); vcpu = omega (arith, h .vcpus, k .vcpu) }
+
 -- neither write changes the shape
 pub vcpu-shape : (s : System) (i : ℕ) (v : VirtualCpu) → SameShape s (putVcpu s i v)
 unfolding putVcpu
@@ -92,8 +103,8 @@ unfolding vcpuAt occupantAt putVcpu
 wrote-vcpu s i v p t hi =
     record {
       shape = vcpu-shape s i v;
-      here = getD-set-same (s .vcpus) i v offline (omega (arith, t .vcpus));
-      there = λ j n. getD-set-other (s .vcpus) i j v offline n;
+      here = getD-set-same (s .vcpus) i v offlineVcpu (omega (arith, t .vcpus));
+      there = λ j n. getD-set-other (s .vcpus) i j v offlineVcpu n;
       onto = refl;
       others = λ q n. refl;
     }

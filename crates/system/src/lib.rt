@@ -4,12 +4,13 @@
 ghost use mathlib.Core.Path.{_≡_};
 ghost use mathlib.Core.Bool.{cond, not};
 ghost use Prim.Native.Nat.{min};
-ghost use Rattle.system.specs.Answers.{told, outcome};
+ghost use Rattle.system.specs.Answers.{told, systemOutcome};
 ghost use Rattle.system.specs.Records.{elapsed, inFlight};
-ghost use Rattle.system.specs.Shape.{fits, fresh, built};
-ghost use Rattle.system.specs.Reads.{domains, pcpus, vcpuCount, isIdle, vcpuOf, stateOf, runs, isRunning};
+ghost use Rattle.system.specs.Shape.{withinSizes, fresh, builtSystem};
+ghost use Rattle.system.specs.Reads.{vcpuCount, isIdle, vcpuOf, stateOf, runs, isRunning};
 ghost use Rattle.system.specs.Reads.{runtimeOf, since, onCpuSince, occupantOf, affinityOf, affinityPermits};
 ghost use Rattle.system.specs.Reads.{fullAffinity, busyIn, busyPcpus};
+ghost use Rattle.system.specs.Slots.{domains, pcpus};
 
 /// A domain id: an index into the system's domains.
 pub type DomId = u16;
@@ -142,7 +143,7 @@ impl PhysicalCpu {
 
 /// Whether a host may have that shape.
 pub fn within_sizes(num_domains: usize, vcpus_per_domain: usize, num_pcpus: usize) -> bool
-    ensures { λ r. ⌜ r ≡ fits «num_domains» «vcpus_per_domain» «num_pcpus» ⌝ }
+    ensures { λ r. ⌜ r ≡ withinSizes «num_domains» «vcpus_per_domain» «num_pcpus» ⌝ }
 {
     if num_domains <= MAX_DOMAINS {
         if vcpus_per_domain <= MAX_VCPUS {
@@ -209,7 +210,7 @@ impl System {
     /// A system of that shape. One above the sizes is refused, beside the system of no domains,
     /// vCPUs and pCPUs.
     pub fn new(num_domains: usize, vcpus_per_domain: usize, num_pcpus: usize) -> Stepped
-        ensures { λ r. ⌜ outcome r ≡ built «num_domains» «vcpus_per_domain» «num_pcpus» ⌝ }
+        ensures { λ r. ⌜ systemOutcome r ≡ builtSystem «num_domains» «vcpus_per_domain» «num_pcpus» ⌝ }
     {
         if within_sizes(num_domains, vcpus_per_domain, num_pcpus) {
             Stepped {
@@ -359,20 +360,20 @@ impl System {
     pub fn busy_pcpus(self) -> usize
         ensures { λ r. ⌜ r ≡ busyPcpus self ⌝ }
     {
-        let held = self.pcpus;
-        busy_in(held, self.pcpu_count)
+        let pcpus = self.pcpus;
+        busy_in(pcpus, self.pcpu_count)
     }
 }
 
 /// The number of the first pCPUs of a table that somebody holds.
-pub fn busy_in(held: [PhysicalCpu; 64], pcpu_count: usize) -> usize
-    ensures { λ r. ⌜ r ≡ busyIn held «pcpu_count» ⌝ }
+pub fn busy_in(pcpus: [PhysicalCpu; 64], pcpu_count: usize) -> usize
+    ensures { λ r. ⌜ r ≡ busyIn pcpus «pcpu_count» ⌝ }
 {
     let n = least(pcpu_count, MAX_PCPUS);
     let mut busy: usize = 0;
     let mut p: usize = 0;
     while p < n {
-        let c = held[p];
+        let c = pcpus[p];
         busy += one_if_busy(c);
         p += 1;
     }

@@ -1,2 +1,2 @@
-pub mod Puts
-pub mod Spelling
+mod Puts
+mod Spelling

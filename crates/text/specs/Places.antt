@@ -65,12 +65,14 @@ placed-then {before} {t} {mid} {u} {after} {at} {m} {end} l p q =
     record { bytes = both ∙ put-put before t u at l; past = omega (arith, p .past, q .past, length-append t u) }
 
 -- a line whose text was put at the start of zeros
-pub line-of : {t bytes : List ℕ} {length′ : ℕ} → Placed (replicate 176 0) 0 t bytes length′ → record { bytes = bytes; length = length′ } ≡ lineOf t
+pub line-of : {t bytes : List ℕ} {length′ : ℕ} → Placed (replicate 176 0) 0 t bytes length′
+    → record { bytes = bytes; length = length′ } ≡ lineOf t
 line-of {t} p = ap₂ (λ (b : List ℕ) (n : ℕ). record { bytes = b; length = n }) (p .bytes) (p .past ∙ zero-add (length t))
 
 -- no text
 pub placed-none : (out : List ℕ) (at : ℕ) → Placed out at [] out at
-placed-none out at = record { bytes = sym (ap (λ n. take at out ++ drop n out) (add-zero at) ∙ take-append-drop at out); past = sym (add-zero at) }
+placed-none out at =
+    record { bytes = sym (ap (λ n. take at out ++ drop n out) (add-zero at) ∙ take-append-drop at out); past = sym (add-zero at) }
 
 -- a line that fits is put there
 pub append-placed : (out t : List ℕ) (at : ℕ) → length t ≤ 176 → at + length t ≤ length out

@@ -1,1 +1,1 @@
-pub mod Inside
+mod Bounds

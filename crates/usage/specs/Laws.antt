@@ -8,7 +8,8 @@ use lib.Dec.{ltb, lit≤}
 use Rattle.service.specs.Service.{value, held}
 use Rattle.service.specs.Laws.{held-exact}
 use Rattle.system.specs.declared.System.{System}
-use Rattle.system.specs.Reads.{domains, vcpus, slot, vcpuAt, vcpuCount}
+use Rattle.system.specs.Reads.{vcpuAt, vcpuCount}
+use Rattle.system.specs.Slots.{domains, vcpus, slot}
 use Rattle.usage.specs.Usage.{runtimes, usage}
 
 module _ (s : System) (words : (i : ℕ) → (vcpuAt s i) .runtime < 2 ^ 64) (d : ℕ) where

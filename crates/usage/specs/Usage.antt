@@ -1,7 +1,8 @@
 -- What a domain used.
 use Prim.Native.Nat.{ℕ, zero, suc, _+_}
 use Rattle.system.specs.declared.System.{System}
-use Rattle.system.specs.Reads.{slot, vcpuAt, vcpuCount}
+use Rattle.system.specs.Reads.{vcpuAt, vcpuCount}
+use Rattle.system.specs.Slots.{slot}
 
 -- the run times of the first k vCPUs of domain d
 unfoldable pub runtimes : System → ℕ → ℕ → ℕ

@@ -11,15 +11,17 @@ use Rattle.system.specs.declared.RunState.the-variants.{Offline, Runnable, Runn
 use Rattle.system.specs.declared.Occupant.{Occupant}
 use Rattle.system.specs.declared.Occupant.the-variants.{Idle, Vcpu}
 use Rattle.system.specs.declared.System.{System}
-use Rattle.system.specs.Shape.{fits}
-use Rattle.system.specs.Reads.{domains, vcpus, pcpus, slot, vcpuAt, occupantAt, isIdle, count, busyPcpus}
+use Rattle.system.specs.Shape.{withinSizes}
+use Rattle.system.specs.Reads.{vcpuAt, occupantAt, isIdle, count, busyPcpus}
+use Rattle.system.specs.Slots.{domains, vcpus, pcpus, slot, Present}
+use Rattle.system.specs.States.{onto}
 use Rattle.verdict.specs.declared.Violation.{Violation}
 use Rattle.verdict.specs.declared.Violation.the-variants.{None}
 use Rattle.verdict.specs.Violations.{vcpuViolation, slotViolation, holderViolation, pcpuViolation}
-use Rattle.verdict.specs.Violations.{onto, earliest, firstViolation, isNone, invariantsHold}
-use Rattle.verdict.specs.Loops.{runsWithin, runningAt}
-use Rattle.verdict.specs.Sound.{Present, OnPcpu, Sound, earliest-none, clean-runs, holds-none, is-none, sound-iff}
-use Rattle.verdict.proofs.Scan.{or-keeps, stop, counts}
+use Rattle.verdict.specs.Violations.{earliest, firstViolation, isNone, invariantsHold}
+use Rattle.verdict.specs.Internal.{runsWithin, runningAt}
+use Rattle.verdict.specs.Sound.{OnPcpu, Sound, earliest-none, clean-runs, occupies-none, is-none, sound-iff}
+use Rattle.verdict.proofs.VerdictScan.{or-keeps, stop, counts}
 use Rattle.verdict.proofs.Pigeonhole.{Into, into-le, into-lt}
 
 -- the slot that an occupant names, of meaning only where there is one
@@ -71,16 +73,16 @@ module _ (s : System) where
     where
       below′ : (p : ℕ) → p < pcpus s → (o : Occupant) → occupantAt s p ≡ o → not (isIdle o) ≡ true → holder o < domains s * 8
       below′ p l Idle q e = absurd (false≢true e)
-      below′ p l (Vcpu d v) q e = let h = S .held p d v l q in omega (arith, h .domain, h .vcpu)
+      below′ p l (Vcpu d v) q e = let h = S .occupied p d v l q in omega (arith, h .domain, h .vcpu)
 
       at : (p : ℕ) → p < pcpus s → (o : Occupant) → occupantAt s p ≡ o → not (isIdle o) ≡ true → (vcpuAt s (holder o)) .state ≡ Running p
       at p l Idle q e = absurd (false≢true e)
-      at p l (Vcpu d v) q e = (S .held p d v l q) .on
+      at p l (Vcpu d v) q e = (S .occupied p d v l q) .on
 
       lands′ : (p : ℕ) → p < pcpus s → (o : Occupant) → occupantAt s p ≡ o → not (isIdle o) ≡ true → runningAt s (holder o) ≡ true
       lands′ p l Idle q e = absurd (false≢true e)
       lands′ p l (Vcpu d v) q e =
-          let h = S .held p d v l q in
+          let h = S .occupied p d v l q in
           ap (runsWithin (vcpus s) (slot d v % 8)) (h .on) ∙ lt-ltb (slot d v % 8) (vcpus s) (omega (arith, h .vcpu))
 
       one : (p q : ℕ) → Running p ≡ Running q → p ≡ q
@@ -97,7 +99,7 @@ module _ (s : System) where
         let j : i ≡ slot (i / 8) (i % 8) = omega arith in
         let on = subst (λ (n : ℕ). (vcpuAt s n) .state ≡ Running p) j r in
         ap (holderViolation s p) (o .back)
-        ∙ holds-none s p (i / 8) (i % 8) (record { domain = omega arith; vcpu = h .0; on = on })
+        ∙ occupies-none s p (i / 8) (i % 8) (record { domain = omega arith; vcpu = h .0; on = on })
 
     clean : count (runningAt s) (domains s * 8) ≡ busyPcpus s → (p : ℕ) → p < pcpus s → pcpuViolation s p ≡ None
     unfolding pcpuViolation occupantAt
@@ -118,7 +120,7 @@ unfolding count
 counted f i n e h = rw (e, h)
 
 -- ---- of a system whose counts fit: what the loop finds
-module _ (s : System) (fit : fits (s .«domain_count») (s .«vcpus_per_domain») (s .«pcpu_count») ≡ true) where
+module _ (s : System) (fit : withinSizes (s .«domain_count») (s .«vcpus_per_domain») (s .«pcpu_count») ≡ true) where
   pub running-told : (i : ℕ) → runsWithin (s .«vcpus_per_domain») (i % 8) ((vcpuAt s i) .state) ≡ runningAt s i
   unfolding runningAt
   running-told i = ap (λ (k : ℕ). runsWithin k (i % 8) ((vcpuAt s i) .state)) (sym (counts s fit .1))
@@ -149,7 +151,7 @@ module _ (s : System) (fit : fits (s .«domain_count») (s .«vcpus_per_domain»
       rw (fit, or-keeps _ (earliest (pcpuViolation s) (pcpus s)) some) some
 
 -- the verdict of the tally
-pub tally : (s : System) → fits (s .«domain_count») (s .«vcpus_per_domain») (s .«pcpu_count») ≡ true
+pub tally : (s : System) → withinSizes (s .«domain_count») (s .«vcpus_per_domain») (s .«pcpu_count») ≡ true
     → earliest (slotViolation s) (domains s * 8) ≡ None
     → eqb (count (runningAt s) (domains s * 8)) (busyPcpus s) ≡ invariantsHold s
 unfolding firstViolation invariantsHold occupantAt

@@ -1,3 +1,3 @@
 pub mod Violations
-pub mod Loops
+pub mod Internal
 pub mod Sound

@@ -7,25 +7,23 @@ use native.Mathlib.Nat.{eq-or-lt-of-le}
 use native.Mathlib.Omega.{arith}
 use lib.Dec.{ltb}
 use borrow.Author.Tests.{ltb-true, leb-true, eqb-true, eq-eqb, lt-ltb, le-leb}
-use Rattle.masks.specs.Conj.{both}
+use Rattle.scan.specs.Booleans.{both}
 use Rattle.masks.specs.Masks.{permits}
 use Rattle.system.specs.declared.RunState.{RunState}
 use Rattle.system.specs.declared.RunState.the-variants.{Offline, Runnable, Running, Blocked}
 use Rattle.system.specs.declared.Occupant.{Occupant}
 use Rattle.system.specs.declared.Occupant.the-variants.{Idle, Vcpu}
 use Rattle.system.specs.declared.System.{System}
-use Rattle.system.specs.Shape.{fits}
-use Rattle.system.specs.Reads.{domains, vcpus, pcpus, slot, vcpuAt, occupantAt}
+use Rattle.system.specs.States.{runsOn, runs-on}
+use Rattle.system.specs.Shape.{withinSizes}
+use Rattle.system.specs.Reads.{vcpuAt, occupantAt}
+use Rattle.system.specs.Slots.{domains, vcpus, pcpus, slot, Present}
+use Rattle.system.specs.States.{runsOn}
 use Rattle.verdict.specs.declared.Violation.{Violation}
 use Rattle.verdict.specs.declared.Violation.the-variants.{None, Oversize, OccupantGhost, OccupantNotRunning}
 use Rattle.verdict.specs.declared.Violation.the-variants.{RunningGhostPcpu, OccupancyBroken, RunningOffAffinity}
-use Rattle.verdict.specs.Violations.{names, runsOn, vcpuViolation, slotViolation, holderViolation}
+use Rattle.verdict.specs.Violations.{names, vcpuViolation, slotViolation, holderViolation}
 use Rattle.verdict.specs.Violations.{pcpuViolation, orElse, earliest, firstViolation, isNone, invariantsHold}
-
--- the vCPU of slot i exists
-pub record Present (s : System) (i : ℕ) : Type 0 where
-  pub domain : i / 8 < domains s
-  pub vcpu : i % 8 < vcpus s
 
 -- the vCPU of slot i may stand on pCPU p: p exists, names it back, and its mask admits p
 pub record OnPcpu (s : System) (i p : ℕ) : Type 0 where
@@ -34,7 +32,7 @@ pub record OnPcpu (s : System) (i p : ℕ) : Type 0 where
   pub admits : permits ((vcpuAt s i) .affinity) p ≡ true
 
 -- d/v may hold pCPU p: it exists and is Running there
-pub record Holds (s : System) (p d v : ℕ) : Type 0 where
+pub record Occupies (s : System) (p d v : ℕ) : Type 0 where
   pub domain : d < domains s
   pub vcpu : v < vcpus s
   pub on : (vcpuAt s (slot d v)) .state ≡ Running p
@@ -45,7 +43,7 @@ pub record Sound (s : System) : Type 0 where
   pub vcpus : s .«vcpus_per_domain» ≤ 8
   pub pcpus : s .«pcpu_count» ≤ 64
   pub runs : (i p : ℕ) → Present s i → (vcpuAt s i) .state ≡ Running p → OnPcpu s i p
-  pub held : (p d v : ℕ) → p < Rattle.system.specs.Reads.pcpus s → occupantAt s p ≡ Vcpu d v → Holds s p d v
+  pub occupied : (p d v : ℕ) → p < Rattle.system.specs.Slots.pcpus s → occupantAt s p ≡ Vcpu d v → Occupies s p d v
 
 -- nothing is found where nothing is wrong, and something where something is
 pub earliest-none : (f : ℕ → Violation) (n : ℕ) → ((i : ℕ) → i < n → f i ≡ None) → earliest f n ≡ None
@@ -78,14 +76,8 @@ named : (o : Occupant) (d v : ℕ) → names o d v ≡ true → o ≡ Vcpu d v
 named Idle d v e = absurd (false≢true e)
 named (Vcpu e u) d v h = let k = both _ _ h in rw (eqb-true e d (k .0), eqb-true u v (k .1))
 
-pub runs-on : (p : ℕ) (st : RunState) → runsOn p st ≡ true → st ≡ Running p
-runs-on p Offline e = absurd (false≢true e)
-runs-on p Runnable e = absurd (false≢true e)
-runs-on p (Running q) e = ap Running (eqb-true q p e)
-runs-on p Blocked e = absurd (false≢true e)
-
-pub fits-sizes : (d v p : ℕ) → fits d v p ≡ true → (d ≤ 16) × (v ≤ 8) × (p ≤ 64)
-fits-sizes d v p e =
+pub within-sizes : (d v p : ℕ) → withinSizes d v p ≡ true → (d ≤ 16) × (v ≤ 8) × (p ≤ 64)
+within-sizes d v p e =
     let a = both _ _ e in
     let b = both _ _ (a .1) in
     (leb-true d 16 (a .0), leb-true v 8 (b .0), leb-true p 64 (b .1))
@@ -106,20 +98,20 @@ clean-runs s clean i p h r =
 pub none-sound : (s : System) → firstViolation s ≡ None → Sound s
 unfolding firstViolation pcpuViolation
 none-sound s e =
-    record { domains = size .0; vcpus = size .1; pcpus = size .2; runs = clean-runs s (clean .0); held = held′ }
+    record { domains = size .0; vcpus = size .1; pcpus = size .2; runs = clean-runs s (clean .0); occupied = occupied′ }
   where
-    test : (fits (s .«domain_count») (s .«vcpus_per_domain») (s .«pcpu_count») ≡ true)
+    test : (withinSizes (s .«domain_count») (s .«vcpus_per_domain») (s .«pcpu_count») ≡ true)
         × (orElse (earliest (slotViolation s) (domains s * 8)) (earliest (pcpuViolation s) (pcpus s)) ≡ None)
     test = passed _ _ Oversize refl e
 
     size : (s .«domain_count» ≤ 16) × (s .«vcpus_per_domain» ≤ 8) × (s .«pcpu_count» ≤ 64)
-    size = fits-sizes _ _ _ (test .0)
+    size = within-sizes _ _ _ (test .0)
 
     clean : (earliest (slotViolation s) (domains s * 8) ≡ None) × (earliest (pcpuViolation s) (pcpus s) ≡ None)
     clean = or-none _ _ (test .1)
 
-    held′ : (p d v : ℕ) → p < pcpus s → occupantAt s p ≡ Vcpu d v → Holds s p d v
-    held′ p d v l o =
+    occupied′ : (p d v : ℕ) → p < pcpus s → occupantAt s p ≡ Vcpu d v → Occupies s p d v
+    occupied′ p d v l o =
         let f = earliest-all (pcpuViolation s) (pcpus s) (clean .1) p l in
         let g = subst (λ (h : Occupant). holderViolation s p h ≡ None) o f in
         let a = passed _ _ (OccupantGhost p) refl g in
@@ -128,8 +120,8 @@ none-sound s e =
         record { domain = ltb-true _ _ (c .0); vcpu = ltb-true _ _ (c .1); on = runs-on p _ (b .0) }
 
 -- a pCPU whose holder may hold it is in no violation
-pub holds-none : (s : System) (p d v : ℕ) → Holds s p d v → holderViolation s p (Vcpu d v) ≡ None
-holds-none s p d v h =
+pub occupies-none : (s : System) (p d v : ℕ) → Occupies s p d v → holderViolation s p (Vcpu d v) ≡ None
+occupies-none s p d v h =
     let r : runsOn p ((vcpuAt s (slot d v)) .state) ≡ true = ap (runsOn p) (h .on) ∙ eq-eqb p p refl in
     rw (lt-ltb d (domains s) (h .domain), lt-ltb v (vcpus s) (h .vcpu), r)
 
@@ -160,7 +152,7 @@ sound-none s S =
 
     holder-ok : (p : ℕ) → p < pcpus s → (o : Occupant) → occupantAt s p ≡ o → holderViolation s p o ≡ None
     holder-ok p l Idle e = refl
-    holder-ok p l (Vcpu d v) e = holds-none s p d v (S .held p d v l e)
+    holder-ok p l (Vcpu d v) e = occupies-none s p d v (S .occupied p d v l e)
 
     pcpu-ok : (p : ℕ) → p < pcpus s → pcpuViolation s p ≡ None
     pcpu-ok p l = holder-ok p l (occupantAt s p) refl

@@ -4,12 +4,13 @@ use mathlib.Core.Bool.{Bool, true, false, cond, _&&_}
 use lib.Dec.{ltb, eqb}
 use Rattle.masks.specs.Masks.{permits}
 use Rattle.system.specs.declared.RunState.{RunState}
-use Rattle.system.specs.declared.RunState.the-variants.{Offline, Runnable, Running, Blocked}
 use Rattle.system.specs.declared.Occupant.{Occupant}
 use Rattle.system.specs.declared.Occupant.the-variants.{Idle, Vcpu}
 use Rattle.system.specs.declared.System.{System}
-use Rattle.system.specs.Shape.{fits}
-use Rattle.system.specs.Reads.{domains, vcpus, pcpus, slot, vcpuAt, occupantAt}
+use Rattle.system.specs.States.{whileRunning, runsOn}
+use Rattle.system.specs.Shape.{withinSizes}
+use Rattle.system.specs.Reads.{vcpuAt, occupantAt}
+use Rattle.system.specs.Slots.{domains, vcpus, pcpus, slot}
 use Rattle.verdict.specs.declared.Violation.{Violation}
 use Rattle.verdict.specs.declared.Violation.the-variants.{None, Oversize, OccupantGhost, OccupantNotRunning}
 use Rattle.verdict.specs.declared.Violation.the-variants.{RunningGhostPcpu, OccupancyBroken, RunningOffAffinity}
@@ -19,20 +20,6 @@ abbrev pub names : Occupant → ℕ → ℕ → Bool
 names Idle d v = false
 names (Vcpu e u) d v = eqb e d && eqb u v
 
--- the state is Running on p
-abbrev pub runsOn : ℕ → RunState → Bool
-runsOn p Offline = false
-runsOn p Runnable = false
-runsOn p (Running q) = eqb q p
-runsOn p Blocked = false
-
--- the pCPU that a state names, 0 unless it is Running
-abbrev pub onto : RunState → ℕ
-onto Offline = 0
-onto Runnable = 0
-onto (Running p) = p
-onto Blocked = 0
-
 -- d/v is Running on pCPU p of n, whose occupant is o: p exists, o is d/v, the mask admits p
 abbrev pub runningViolation : ℕ → Occupant → ℕ → ℕ → ℕ → ℕ → Violation
 runningViolation n o d v mask p =
@@ -40,10 +27,7 @@ runningViolation n o d v mask p =
     (RunningGhostPcpu d v)
 
 abbrev pub vcpuViolation : System → ℕ → ℕ → ℕ → RunState → Violation
-vcpuViolation s d v mask Offline = None
-vcpuViolation s d v mask Runnable = None
-vcpuViolation s d v mask (Running p) = runningViolation (pcpus s) (occupantAt s p) d v mask p
-vcpuViolation s d v mask Blocked = None
+vcpuViolation s d v mask st = whileRunning st (λ p. runningViolation (pcpus s) (occupantAt s p) d v mask p) None
 
 -- slot i is that of d/v with d = i / 8 and v = i % 8, so slots in order are vCPUs by domain, then vCPU
 unfoldable pub slotViolation : System → ℕ → Violation
@@ -51,13 +35,13 @@ slotViolation s i =
     cond (ltb (i % 8) (vcpus s)) (vcpuViolation s (i / 8) (i % 8) ((vcpuAt s i) .affinity) ((vcpuAt s i) .state)) None
 
 -- d/v, of n domains of k vCPUs, holds pCPU p and has the state st: d/v exists and is Running on p
-abbrev pub heldViolation : ℕ → ℕ → RunState → ℕ → ℕ → ℕ → Violation
-heldViolation n k st p d v =
+abbrev pub occupantViolation : ℕ → ℕ → RunState → ℕ → ℕ → ℕ → Violation
+occupantViolation n k st p d v =
     cond (ltb d n && ltb v k) (cond (runsOn p st) None (OccupantNotRunning p)) (OccupantGhost p)
 
 abbrev pub holderViolation : System → ℕ → Occupant → Violation
 holderViolation s p Idle = None
-holderViolation s p (Vcpu d v) = heldViolation (domains s) (vcpus s) ((vcpuAt s (slot d v)) .state) p d v
+holderViolation s p (Vcpu d v) = occupantViolation (domains s) (vcpus s) ((vcpuAt s (slot d v)) .state) p d v
 
 unfoldable pub pcpuViolation : System → ℕ → Violation
 pcpuViolation s p = holderViolation s p (occupantAt s p)
@@ -79,7 +63,7 @@ earliest f (suc n) = orElse (earliest f n) (f n)
 -- sizes first, then all vCPUs, then all pCPUs
 unfoldable pub firstViolation : System → Violation
 firstViolation s =
-    cond (fits (s .«domain_count») (s .«vcpus_per_domain») (s .«pcpu_count»))
+    cond (withinSizes (s .«domain_count») (s .«vcpus_per_domain») (s .«pcpu_count»))
     (orElse (earliest (slotViolation s) (domains s * 8)) (earliest (pcpuViolation s) (pcpus s)))
     Oversize
 

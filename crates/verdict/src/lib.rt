@@ -3,11 +3,12 @@
 ghost use mathlib.Core.Path.{_≡_};
 ghost use mathlib.Core.Bool.{true};
 ghost use Prim.Native.Nat.{_*_};
-ghost use Rattle.system.specs.Shape.{fits};
-ghost use Rattle.system.specs.Reads.{domains, pcpus};
-ghost use Rattle.verdict.specs.Violations.{names, runsOn, isNone, earliest, slotViolation, pcpuViolation};
+ghost use Rattle.system.specs.Shape.{withinSizes};
+ghost use Rattle.system.specs.Slots.{domains, pcpus};
+ghost use Rattle.system.specs.States.{runsOn};
+ghost use Rattle.verdict.specs.Violations.{names, isNone, earliest, slotViolation, pcpuViolation};
 ghost use Rattle.verdict.specs.Violations.{orElse, firstViolation, invariantsHold};
-ghost use Rattle.verdict.specs.Loops.{pcpuIndex, vcpuViolationAt, holderSlot, holderViolationAt, runsWithin};
+ghost use Rattle.verdict.specs.Internal.{pcpuIndex, vcpuViolationAt, holderSlot, holderViolationAt, runsWithin};
 use system::Occupant;
 use system::PhysicalCpu;
 use system::RunState;
@@ -66,25 +67,25 @@ fn pcpu_index(v: VirtualCpu) -> usize
 }
 
 // Whether the occupant of a pCPU is vCPU dom/vcpu.
-fn names_vcpu(held: PhysicalCpu, dom: usize, vcpu: usize) -> bool
-    ensures { λ r. ⌜ r ≡ names (held .occupant) dom vcpu ⌝ }
+fn names_vcpu(c: PhysicalCpu, dom: usize, vcpu: usize) -> bool
+    ensures { λ r. ⌜ r ≡ names (c .occupant) dom vcpu ⌝ }
 {
-    let o = held.occupant;
+    let o = c.occupant;
     match o {
         Occupant::Idle => false,
         Occupant::Vcpu { dom: d, vcpu: v } => d as usize == dom && v as usize == vcpu,
     }
 }
 
-// What is wrong with vCPU dom/vcpu, where held stands at its pCPU's index.
+// What is wrong with vCPU dom/vcpu, where c stands at its pCPU's index.
 fn vcpu_violation(
     v: VirtualCpu,
-    held: PhysicalCpu,
+    c: PhysicalCpu,
     pcpu_count: usize,
     dom: usize,
     vcpu: usize,
 ) -> Violation
-    ensures { λ r. ⌜ r ≡ vcpuViolationAt «pcpu_count» (held .occupant) dom vcpu (v .affinity) (v .state) ⌝ }
+    ensures { λ r. ⌜ r ≡ vcpuViolationAt «pcpu_count» (c .occupant) dom vcpu (v .affinity) (v .state) ⌝ }
 {
     let state = v.state;
     match state {
@@ -94,7 +95,7 @@ fn vcpu_violation(
             if pcpu_count <= pcpu as usize {
                 return Violation::RunningGhostPcpu { dom, vcpu };
             }
-            if !names_vcpu(held, dom, vcpu) {
+            if !names_vcpu(c, dom, vcpu) {
                 return Violation::OccupancyBroken { dom, vcpu };
             }
             if !masks::mask_permits(v.affinity, pcpu) {
@@ -108,7 +109,7 @@ fn vcpu_violation(
 
 // The first violation of a vCPU, by domain, then vCPU.
 fn first_vcpu_violation(s: System) -> Violation
-    requires { ⌜ fits (s .«domain_count») (s .«vcpus_per_domain») (s .«pcpu_count») ≡ true ⌝ }
+    requires { ⌜ withinSizes (s .«domain_count») (s .«vcpus_per_domain») (s .«pcpu_count») ≡ true ⌝ }
     ensures { λ r. ⌜ r ≡ earliest (slotViolation s) (domains s * 8) ⌝ }
 {
     let n = s.domain_count * 8;
@@ -119,8 +120,8 @@ fn first_vcpu_violation(s: System) -> Violation
         if i % 8 < k {
             let v = s.vcpus[i];
             let q = pcpu_index(v);
-            let held = s.pcpus[q];
-            let found = vcpu_violation(v, held, m, i / 8, i % 8);
+            let c = s.pcpus[q];
+            let found = vcpu_violation(v, c, m, i / 8, i % 8);
             if !is_none(found) {
                 return found;
             }
@@ -131,10 +132,10 @@ fn first_vcpu_violation(s: System) -> Violation
 }
 
 // The slot of the vCPU that holds a pCPU, as an index that is always in the table.
-fn holder_slot(held: PhysicalCpu) -> usize
-    ensures { λ r. ⌜ r ≡ holderSlot (held .occupant) ⌝ }
+fn holder_slot(c: PhysicalCpu) -> usize
+    ensures { λ r. ⌜ r ≡ holderSlot (c .occupant) ⌝ }
 {
-    let o = held.occupant;
+    let o = c.occupant;
     match o {
         Occupant::Idle => 0,
         Occupant::Vcpu { dom, vcpu } => (dom % 16) as usize * 8 + (vcpu % 8) as usize,
@@ -156,15 +157,15 @@ fn runs_on(v: VirtualCpu, pcpu: usize) -> bool
 
 // What is wrong with a pCPU, where v is the record at its holder's slot.
 fn pcpu_violation(
-    held: PhysicalCpu,
+    c: PhysicalCpu,
     v: VirtualCpu,
     domain_count: usize,
     vcpus_per_domain: usize,
     pcpu: usize,
 ) -> Violation
-    ensures { λ r. ⌜ r ≡ holderViolationAt «domain_count» «vcpus_per_domain» (v .state) pcpu (held .occupant) ⌝ }
+    ensures { λ r. ⌜ r ≡ holderViolationAt «domain_count» «vcpus_per_domain» (v .state) pcpu (c .occupant) ⌝ }
 {
-    let o = held.occupant;
+    let o = c.occupant;
     match o {
         Occupant::Idle => Violation::None,
         Occupant::Vcpu { dom, vcpu } => {
@@ -184,7 +185,7 @@ fn pcpu_violation(
 
 // The first violation of a pCPU.
 fn first_pcpu_violation(s: System) -> Violation
-    requires { ⌜ fits (s .«domain_count») (s .«vcpus_per_domain») (s .«pcpu_count») ≡ true ⌝ }
+    requires { ⌜ withinSizes (s .«domain_count») (s .«vcpus_per_domain») (s .«pcpu_count») ≡ true ⌝ }
     ensures { λ r. ⌜ r ≡ earliest (pcpuViolation s) (pcpus s) ⌝ }
 {
     let d = s.domain_count;
@@ -192,10 +193,10 @@ fn first_pcpu_violation(s: System) -> Violation
     let m = s.pcpu_count;
     let mut p: usize = 0;
     while p < m {
-        let held = s.pcpus[p];
-        let j = holder_slot(held);
+        let c = s.pcpus[p];
+        let j = holder_slot(c);
         let v = s.vcpus[j];
-        let found = pcpu_violation(held, v, d, k, p);
+        let found = pcpu_violation(c, v, d, k, p);
         if !is_none(found) {
             return found;
         }
@@ -230,7 +231,7 @@ fn runs_within(v: VirtualCpu, vcpu: usize, vcpus_per_domain: usize) -> bool
 }
 
 /// Whether a system has no violation.
-// Where each Running vCPU's pCPU names it back and as many pCPUs are held as vCPUs run, each holder runs.
+// Where each Running vCPU's pCPU names it back and as many pCPUs are busy as vCPUs run, each holder runs.
 pub fn invariants_hold(s: System) -> bool
     ensures { λ r. ⌜ r ≡ invariantsHold s ⌝ }
 {
@@ -247,14 +248,14 @@ pub fn invariants_hold(s: System) -> bool
         let v = s.vcpus[i];
         if runs_within(v, i % 8, k) {
             let q = pcpu_index(v);
-            let held = s.pcpus[q];
-            if !is_none(vcpu_violation(v, held, m, i / 8, i % 8)) {
+            let c = s.pcpus[q];
+            if !is_none(vcpu_violation(v, c, m, i / 8, i % 8)) {
                 return false;
             }
             running += 1;
         }
         i += 1;
     }
-    let held = s.pcpus;
-    running == system::busy_in(held, m)
+    let pcpus = s.pcpus;
+    running == system::busy_in(pcpus, m)
 }

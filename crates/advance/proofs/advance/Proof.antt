@@ -5,7 +5,7 @@ use borrow.Author.Needs.{needs}
 use borrow.Author.Tests.{not-true, not-false}
 use Rattle.verdict.specs.Violations.{invariantsHold}
 use Rattle.advance.specs.Advance.{advance}
-use Rattle.advance.proofs.Returned.{settled}
+use Rattle.advance.proofs.AdvanceResult.{service-settleable, settled}
 use Rattle.advance.proofs.advance.Statement.{statement}
 use Rattle.advance.proofs.advance.Tie as tie
 
@@ -22,7 +22,7 @@ done c =
     let a = c .before .before .before in
     let s = a .before .before .before .args in
     settled (s .s) (s .p) (a .accounted .result) (s .now) (r .result .system) (r .result .count) (hold (a .before)) (a .accounted .ensures)
-    (r .ensures)
+    (r .ensures _ (service-settleable (a .accounted .result) (c .before .before .tabulate .ensures)))
 
 pub advance-spec : {M : Type 1} → statement M
 advance-spec =
@@ -32,5 +32,5 @@ advance-spec =
     unsound
     (λ c κs. search needs)
     (λ c κs. search needs)
-    (λ c κs. (hold (c .before .before), c .tabulate .ensures))
+    (λ c κs. (hold (c .before .before), (_, service-settleable (c .before .accounted .result) (c .tabulate .ensures))))
     done)

@@ -7,9 +7,9 @@ use native.Mathlib.Omega.{arith}
 use borrow.Author.Needs.{needs}
 use Rattle.masks.specs.Masks.{pcpuBit}
 use Rattle.masks.specs.Sets.{setOf}
-use Rattle.system.specs.Reads.{pcpus, occupantAt}
-use Rattle.advance.specs.Loops.{idleAt}
-use Rattle.advance.proofs.Idle.{joins, joins-below, passes, whole}
+use Rattle.system.specs.Reads.{occupantAt, idleAt}
+use Rattle.system.specs.Slots.{pcpus}
+use Rattle.advance.proofs.IdleSet.{joins, joins-below, passes, whole}
 use Rattle.advance.proofs.idle_set.Statement.{statement}
 use Rattle.advance.proofs.idle_set.Tie as tie
 

@@ -8,9 +8,10 @@ use Rattle.verdict.specs.Sound.{Sound, sound-iff}
 use Rattle.verdict.specs.Violations.{invariantsHold}
 use Rattle.advance.specs.Advance.{next, named}
 use Rattle.advance.proofs.Rows.{table-decides}
-use Rattle.advance.proofs.Moves.{names}
+use Rattle.advance.proofs.SettleMoves.{names}
 use Rattle.advance.proofs.next.Statement.{statement}
 use Rattle.advance.proofs.next.Tie as tie
+use Rattle.advance.specs.ServiceRule.{ruleOf}
 
 unsound : tie.Need-returns
 unfolding next
@@ -29,8 +30,8 @@ done c =
     let t = h .before in
     let e = t .before in
     let a = e .before .before .args in
-    let x = h .choose .ensures ∙ table-decides (a .s) (a .p) (a .now) (sound e) (t .tabulate .ensures) in
-    rw (hold e, c .named .ensures ∙ (names (a .s) (a .p) (a .now) (h .choose .result) (sym x) ∙ ap named x))
+    let x = h .choose .ensures ∙ table-decides (a .s) (ruleOf (a .p)) (a .now) (sound e) (t .tabulate .ensures) in
+    rw (hold e, c .named .ensures ∙ (names (a .s) (ruleOf (a .p)) (a .now) (h .choose .result) (sym x) ∙ ap named x))
 
 pub next-spec : {M : Type 1} → statement M
 next-spec =

@@ -1,38 +1,34 @@
--- `advance::settle` meets its contract: the loop goes on as the definition does. Assumes nothing.
-use Prim.Native.Nat.{ℕ, _+_, _-_, _/_, _%_, _<_}
+-- `advance::settle` meets its contract: under each rule that the table is of, the loop goes on as the definition does. Assumes
+-- nothing.
+use Prim.Native.Nat.{ℕ, _+_, _-_, _<_}
 use mathlib.Core.Bool.{true, false, false≢true}
-use mathlib.Core.Path.{_≡_, refl, sym, _∙_, ap, ap₂}
+use mathlib.Core.Path.{_≡_, refl, sym, _∙_, ap₂}
 use native.Mathlib.Omega.{arith}
 use lib.ListN.{length-map}
 use borrow.Author.Needs.{needs}
-use Rattle.service.specs.Service.{value, held}
-use Rattle.system.specs.Records.{inFlight}
 use Rattle.system.specs.Reads.{vcpuAt}
 use Rattle.system.specs.Writes.{putVcpu, putOccupant, Tables}
+use Rattle.system.specs.Slots.{slot-below}
 use Rattle.verdict.specs.Sound.{sound-iff}
 use Rattle.moves.specs.declared.Choice.{Choice}
 use Rattle.moves.specs.declared.Choice.the-variants.{Run, Preempt, Rest}
-use Rattle.policy.specs.declared.Account.{Account}
-use Rattle.policy.specs.Accounts.{accountOf}
-use Rattle.policy.proofs.AccountLaws.{Tabled}
-use Rattle.policy.proofs.Stored.{looked}
-use Rattle.sched.proofs.Legal.{slot-below}
-use Rattle.advance.specs.Choices.{choice}
-use Rattle.advance.specs.Advance.{limit}
-use Rattle.advance.specs.Loops.{idleSet}
-use Rattle.advance.proofs.Moves.{moved, Moves, Shifts}
-use Rattle.advance.specs.Loops.{isRest, cleared, freed}
-use Rattle.advance.proofs.Going.{Going, going-start, going-decides, going-moves, going-shifts, goes-on, going-rest, going-out}
+use Rattle.rules.specs.Settle.{limit}
+use Rattle.rules.specs.Rules.{Rule}
+use Rattle.rules.specs.Choices.{choice}
+use Rattle.advance.specs.Internal.{idleSet, Settleable}
+use Rattle.advance.proofs.SettleMoves.{moved, Moves, Shifts}
+use Rattle.advance.specs.Internal.{isRest, cleared, freed}
+use Rattle.advance.proofs.SettleLoop.{Going, going-start, going-decides, going-moves, going-shifts, goes-on, going-rest, going-out}
 use Rattle.advance.proofs.Limit.{limit-small}
 use Rattle.advance.proofs.settle.Statement.{statement}
 use Rattle.advance.proofs.settle.Tie as tie
 
 abbrev Inv-loop : tie.InvT-loop
-Inv-loop now p n most kind₀ mask service₀ weight idle₀ system₀ count₀ kind service idle system count =
-    Going p now system₀ kind mask service weight idle system count
+Inv-loop slice now n most kind₀ mask service₀ left weight idle₀ system₀ count₀ kind service idle system count =
+    (ρ : Rule) → Settleable system₀ slice now kind₀ mask service₀ left weight ρ → Going ρ now system₀ kind mask service left weight idle system count
 
 abbrev μ-loop : tie.MeasureT-loop
-μ-loop now p n most kind₀ mask service₀ weight idle₀ system₀ count₀ kind service idle system count = most - count
+μ-loop slice now n most kind₀ mask service₀ left weight idle₀ system₀ count₀ kind service idle system count = most - count
 
 -- the arrays' lengths
 tables : (c : tie.Start Inv-loop μ-loop) → Tables (c .args .s)
@@ -40,28 +36,29 @@ tables c =
     let f = c .good .0 .1 .1 .1 .1 .1 in
     record { vcpus = rw length-map at (f .0 .1 .0 .1); pcpus = rw length-map at (f .1 .0 .1 .0 .1) }
 
-tabled : (c : tie.Start Inv-loop μ-loop) → Tabled (c .args .t2)
-tabled c = record { accounts = rw length-map at (c .good .1 .0 .1 .1 .1 .1 .0 .1 .0 .1) }
-
 abbrev start : tie.At-loop Inv-loop μ-loop → tie.Start Inv-loop μ-loop
-start l = l .before .before .before .before .before .before .before .before
+start l = l .before .before .before .before .before .before .before .before .before
+
+-- the table is that of a rule
+abbrev Under : tie.Start Inv-loop μ-loop → Rule → Type 0
+Under b = let t = b .args .t in Settleable (b .args .s) (b .args .slice) (b .args .now) (t .kind) (t .mask) (t .service) (t .left) (t .weight)
 
 loop-holds : tie.Need-loop-holds Inv-loop μ-loop
 loop-holds c =
-    let b = c .before .before .before .before .before .before .before in
-    rw (c .idle-set .ensures) (going-start (tables b) (sound-iff (b .args .s) .0 (b .pre .0)) (b .pre .1))
+    let b = c .before .before .before .before .before .before .before .before in
+    λ ρ u. rw (c .idle-set .ensures) (going-start (tables b) (sound-iff (b .args .s) .0 (b .pre .0)) u)
 
 abbrev at-loop : tie.After-decide Inv-loop μ-loop → tie.At-loop Inv-loop μ-loop
 at-loop c = c .before .before .before .before .before .before
 
 few : (c : tie.After-decide Inv-loop μ-loop) → let l = at-loop c in l .loop .count < limit (start l .args .s)
-few c = let l = at-loop c in rw (l .before .before .before .before .before .before .most-moves .ensures) at (c .before .before .before .before .before .loop-test .taken)
+few c = let l = at-loop c in rw (l .before .before .before .before .before .before .before .most-moves .ensures) at (c .before .before .before .before .before .loop-test .taken)
 
 -- the decision is the choice
-decided : (c : tie.After-decide Inv-loop μ-loop) →
+decided : (c : tie.After-decide Inv-loop μ-loop) (ρ : Rule) → Under (start (at-loop c)) ρ →
     let l = at-loop c in
-    choice (l .loop .system) (start l .args .t2) (start l .args .now) ≡ c .decide .result
-decided c = let l = at-loop c in sym (c .decide .ensures ∙ going-decides (l .loop .inv) _ refl)
+    choice (l .loop .system) ρ (start l .args .now) ≡ c .decide .result
+decided c ρ u = let l = at-loop c in sym (c .decide .ensures ∙ going-decides (l .loop .inv ρ u) _ refl)
 
 moves-on : (c : tie.Else1 Inv-loop μ-loop) → isRest (c .before .before .decide .result) ≡ false
 moves-on c = sym (c .before .rests .ensures) ∙ c .if1 .left
@@ -70,7 +67,11 @@ can-move : (c : tie.Else1 Inv-loop μ-loop) →
     let d = c .before .before in
     let l = at-loop d in
     Moves (l .loop .system) (start l .args .now) (d .decide .result)
-can-move c = let d = c .before .before in going-moves (at-loop d .loop .inv) (d .decide .result) (decided d) (moves-on c)
+can-move c =
+    let d = c .before .before in
+    let l = at-loop d in
+    let u = start l .pre .1 in
+    going-moves (l .loop .inv (u .0) (u .1)) (d .decide .result) (decided d (u .0) (u .1)) (moves-on c)
 
 slot-in-table : (c : tie.After-slot-in Inv-loop μ-loop) → c .slot-in .result < 128
 slot-in-table c = rw (c .slot-in .ensures) (slot-below (can-move (c .before) .present))
@@ -82,7 +83,7 @@ rested : tie.Need-returns Inv-loop μ-loop
 rested c =
     let r = c .before in
     let d = r .before in
-    going-rest (at-loop d .loop .inv) (decided d ∙ rest-is _ (sym (r .rests .ensures) ∙ c .if1 .taken))
+    λ ρ u. going-rest (at-loop d .loop .inv ρ u) (decided d ρ u ∙ rest-is _ (sym (r .rests .ensures) ∙ c .if1 .taken))
   where
     rest-is : (x : Choice) → isRest x ≡ true → x ≡ Rest
     rest-is (Run i p) e = absurd (false≢true e)
@@ -95,57 +96,56 @@ idle-before : (e : tie.Else1 Inv-loop μ-loop) →
     let l = at-loop d in
     let x = d .decide .result in
     Shifts (l .loop .idle) (cleared x) (freed x) (idleSet (moved (l .loop .system) (start l .args .now) x))
-idle-before e = let d = e .before .before in going-shifts (at-loop d .loop .inv) (d .decide .result) (decided d) (moves-on e)
+idle-before e =
+    let d = e .before .before in
+    let l = at-loop d in
+    let u = start l .pre .1 in
+    going-shifts (l .loop .inv (u .0) (u .1)) (d .decide .result) (decided d (u .0) (u .1)) (moves-on e)
+
+-- the choice that a move is made of
+abbrev made : tie.After-put-row Inv-loop μ-loop → tie.Else1 Inv-loop μ-loop
+made c = c .before .before .before .before .before .before .before .before .before .before
 
 bit-there : tie.Need-sub-idle Inv-loop μ-loop
-bit-there c = rw (c .cleared .ensures) (idle-before (c .before .before .before .before .before .before .before .before .before .before) .there)
+bit-there c = rw (c .cleared .ensures) (idle-before (made (c .before)) .there)
 
 idle-fits : tie.Need-add-idle Inv-loop μ-loop
 idle-fits c =
-    let e = c .before .before .before .before .before .before .before .before .before .before .before in
+    let e = made (c .before .before) in
     let l = at-loop (e .before .before) in
     let f = ap₂ (λ (a b : ℕ). l .loop .idle - a + b) (c .before .cleared .ensures) (c .freed .ensures) in
     omega (arith, idle-before e .fits, f)
 
 count-fits : tie.Need-add-count Inv-loop μ-loop
-count-fits c = let d = c .before .before .before .before .before .before .before .before .before .before .before .before .before in omega (arith, few d, limit-small (start (at-loop d) .args .s))
-
-account : (c : tie.After-looked-up Inv-loop μ-loop) →
-    let i = c .before .before .before .before .before in
-    c .looked-up .result ≡ accountOf (start (at-loop (i .before .before .before)) .args .t2) (i .slot-in .result / 8) (i .slot-in .result % 8)
-account c =
-    let i = c .before .before .before .before .before in
-    let b = start (at-loop (i .before .before .before)) in
-    c .looked-up .ensures ∙ looked (b .args .t2) (tabled b) (i .slot-in .result) (slot-in-table i)
+count-fits c = let d = made (c .before .before) .before .before in omega (arith, few d, limit-small (start (at-loop d) .args .s))
 
 loop-again : tie.Need-loop-again Inv-loop μ-loop
 unfolding vcpuAt putVcpu putOccupant
 loop-again c =
-    let k = c .before .before in
+    let g = c .before .before in
+    let h = g .before in
+    let k = h .before .before .before in
     let o = k .before in
-    let v = o .before in
-    let u = v .before in
-    let r = u .before .before in
+    let r = o .before in
     let q = r .before .before in
     let i = q .before in
     let e = i .before in
     let d = e .before .before in
     let l = at-loop d in
-    let b = start l in
-    let x = r .record-after .result in
-    goes-on
-    (l .loop .inv)
+    λ ρ u. rw (g .put-row .ensures, h .row-at .ensures)
+    (goes-on
+    (l .loop .inv ρ u)
     (d .decide .result)
     (k .kind-of .result)
-    (v .service-of .result)
     (i .slot-in .result)
     (q .onto-in .result)
-    x
+    (r .record-after .result)
     (o .occupant-after .result)
     (c .before .cleared .result)
     (c .freed .result)
+    (start l .args .slice)
     (few d)
-    (decided d)
+    (decided d ρ u)
     (moves-on e)
     (i .slot-in .ensures)
     (q .onto-in .ensures)
@@ -153,11 +153,11 @@ loop-again c =
     (o .occupant-after .ensures)
     (c .before .cleared .ensures)
     (c .freed .ensures)
-    (k .kind-of .ensures)
-    (v .service-of .ensures ∙ ap (λ (y : Account). held (x .runtime + inFlight x (b .args .now) + value (y .offset))) (account u))
+    (u .sliced)
+    (k .kind-of .ensures))
 
 out : tie.Need-returns-2 Inv-loop μ-loop
-out c = let l = c .before in going-out (l .loop .inv) (rw (l .before .before .before .before .before .before .most-moves .ensures) at (c .loop-test .left))
+out c = let l = c .before in λ ρ u. going-out (l .loop .inv ρ u) (rw (l .before .before .before .before .before .before .before .most-moves .ensures) at (c .loop-test .left))
 
 pub settle-spec : {M : Type 1} → statement M
 settle-spec =
@@ -181,36 +181,18 @@ settle-spec =
     (λ c. let h = slot-in-table (c .before .before .before) in omega arith)
     (λ c. slot-in-table (c .before .before .before))
     (λ c κs. search needs)
+    (λ c. let h = pcpu-in-table (c .before .before .before) in omega arith)
+    (λ c. pcpu-in-table (c .before .before .before))
     (λ c κs. search needs)
-    (λ c. let h = slot-in-table (c .before .before .before .before .before .before) in omega arith)
-    (λ c. let h = slot-in-table (c .before .before .before .before .before .before) in omega arith)
-    (λ c. slot-in-table (c .before .before .before .before .before .before))
-    (λ c κs. search needs)
-    (λ c. let h = pcpu-in-table (c .before .before .before .before .before .before) in omega arith)
-    (λ c. pcpu-in-table (c .before .before .before .before .before .before))
-    (λ c κs. search needs)
-    (λ c. let h = slot-in-table (c .before .before .before .before .before .before .before .before) in omega arith)
-    (λ c. slot-in-table (c .before .before .before .before .before .before .before .before))
-    (λ c. search needs)
-    (λ c. let h = slot-in-table (c .before .before .before .before .before .before .before .before) in omega arith)
-    (λ c. let h = slot-in-table (c .before .before .before .before .before .before .before .before) in omega arith)
-    (λ c. search needs)
-    (λ c. let h = slot-in-table (c .before .before .before .before .before .before .before .before) in omega arith)
-    (λ c. let h = slot-in-table (c .before .before .before .before .before .before .before .before) in omega arith)
-    (λ c. let h = slot-in-table (c .before .before .before .before .before .before .before .before) in omega arith)
-    (λ c. search needs)
-    (λ c. let h = slot-in-table (c .before .before .before .before .before .before .before .before) in omega arith)
-    (λ c. let h = slot-in-table (c .before .before .before .before .before .before .before .before) in omega arith)
-    (λ c. let h = slot-in-table (c .before .before .before .before .before .before .before .before) in omega arith)
-    (λ c. search needs)
-    (λ c. let h = slot-in-table (c .before .before .before .before .before .before .before .before) in omega arith)
-    (λ c. let h = slot-in-table (c .before .before .before .before .before .before .before .before) in omega arith)
-    (λ c. let h = slot-in-table (c .before .before .before .before .before .before .before .before) in omega arith)
+    (λ c. let h = slot-in-table (c .before .before .before .before .before) in omega arith)
+    (λ c. slot-in-table (c .before .before .before .before .before))
+    (λ c κs. slot-in-table (c .before .before .before .before .before .before .before))
+    (λ c κs. slot-in-table (c .before .before .before .before .before .before .before .before))
     (λ c κs. search needs)
     bit-there
     (λ c κs. search needs)
     idle-fits
     count-fits
-    (λ c. let h = c .before .before .before .before .before .before .before .before .before .before .before .before .before .before .before .before .before .before .loop-test .taken in omega arith)
+    (λ c. let h = made (c .before .before) .before .before .before .before .before .before .before .loop-test .taken in omega arith)
     loop-again
     out)

@@ -4,19 +4,19 @@ use mathlib.Core.Bool.{true, _&&_}
 use mathlib.Core.Path.{_≡_}
 use lib.Dec.{leb}
 use borrow.Author.Needs.{needs}
-use Rattle.masks.specs.Conj.{both}
-use Rattle.system.specs.Answers.{Outcome}
+use Rattle.scan.specs.Booleans.{both}
+use Rattle.system.specs.Answers.{SystemOutcome}
 use Rattle.system.specs.Shape as system
 use Rattle.policy.specs.Accounts.{PolicyOutcome, builtPolicy}
-use Rattle.host.specs.Handed.{Handed}
+use Rattle.host.specs.Outcomes.{HostOutcome}
 use Rattle.examine.specs.Examine.{made}
 use Rattle.examine.proofs.built_apart.Statement.{statement}
 use Rattle.examine.proofs.built_apart.Tie as tie
 
 -- a system and a policy, each within the sizes, are a host
-together : (d v p e u q : ℕ) (o : Outcome) (a : PolicyOutcome) → system.fits d v p ≡ true → system.fits e u 0 ≡ true
-    → o ≡ system.built d v p → a ≡ builtPolicy e u q
-    → _≡_ {A = Handed} (record { number = 0; host = record { system = o .system; scheduler = a .policy }; count = 0 }) (made d v p e u q)
+together : (d v p e u q : ℕ) (o : SystemOutcome) (a : PolicyOutcome) → system.withinSizes d v p ≡ true → system.withinSizes e u 0 ≡ true
+    → o ≡ system.builtSystem d v p → a ≡ builtPolicy e u q
+    → _≡_ {A = HostOutcome} (record { number = 0; host = record { system = o .system; scheduler = a .policy }; count = 0 }) (made d v p e u q)
 together d v p e u q o a f g s r =
     let x = both (leb e 16) (leb u 8 && leb 0 64) g in
     let y = both (leb u 8) (leb 0 64) (x .1) in

@@ -10,10 +10,10 @@ use borrow.Author.Needs.{needs}
 use Rattle.system.specs.Answers.{told}
 use Rattle.host.specs.declared.Host.{Host}
 use Rattle.host.specs.declared.Outcome.{Outcome}
-use Rattle.host.specs.Handed.{Handed, handed}
+use Rattle.host.specs.Outcomes.{HostOutcome, hostOutcome}
 use Rattle.records.specs.declared.Record.{Record}
 use Rattle.script.specs.declared.Script.{Script}
-use Rattle.script.proofs.Turns.{scriptOf, placed-as}
+use Rattle.script.proofs.Laws.{scriptOf, placed-as}
 use Rattle.text.specs.Lines.{answerLine}
 use Rattle.text.specs.Places.{Placed, placed-then}
 use Rattle.records.specs.Records.{recordAt}
@@ -23,23 +23,23 @@ use Rattle.examine.proofs.examined.Tie as tie
 
 -- what was found of the record at the start of bs
 module _ (c : Script) (bs : List ℕ) (r : Record) (x : Outcome) {n t : ℕ} {b : Bool} (d : r ≡ recordAt bs)
-    (e : handed x ≡ answered (c .host) (c .built) bs r) (f : t ≡ told (x .answer)) (g : n ≡ (c .number + 1) % 2 ^ 64) (k : b ≡ eqb t 0 || c .built) where
-  found : handed x ≡ answeredBy c bs
+    (e : hostOutcome x ≡ answered (c .host) (c .built) bs r) (f : t ≡ told (x .answer)) (g : n ≡ (c .number + 1) % 2 ^ 64) (k : b ≡ eqb t 0 || c .built) where
+  found : hostOutcome x ≡ answeredBy c bs
   found = e ∙ ap (answered (c .host) (c .built) bs) d
 
   number : t ≡ (answeredBy c bs) .number
-  number = f ∙ ap (λ (y : Handed). y .number) found
+  number = f ∙ ap (λ (y : HostOutcome). y .number) found
 
   script : scriptOf n b (x .host) ≡ after c bs
   unfolding after
   script =
       ap (λ (m : ℕ). scriptOf m b (x .host)) g
-      ∙ ap₂ (λ (a : Bool) (h : Host). scriptOf ((c .number + 1) % 2 ^ 64) a h) (k ∙ ap (λ (m : ℕ). eqb m 0 || c .built) number) (ap (λ (y : Handed). y .host) found)
+      ∙ ap₂ (λ (a : Bool) (h : Host). scriptOf ((c .number + 1) % 2 ^ 64) a h) (k ∙ ap (λ (m : ℕ). eqb m 0 || c .built) number) (ap (λ (y : HostOutcome). y .host) found)
 
   line : answerLine n t (x .count) ≡ answerLine ((c .number + 1) % 2 ^ 64) ((answeredBy c bs) .number) ((answeredBy c bs) .count)
   line =
       ap (λ (m : ℕ). answerLine m t (x .count)) g
-      ∙ ap₂ (answerLine ((c .number + 1) % 2 ^ 64)) number (ap (λ (y : Handed). y .count) found)
+      ∙ ap₂ (answerLine ((c .number + 1) % 2 ^ 64)) number (ap (λ (y : HostOutcome). y .count) found)
 
   shown : hostShown b (x .host) r ≡ hostShown ((after c bs) .built) ((after c bs) .host) (recordAt bs)
   shown = ap₂ (λ (s : Script) (q : Record). hostShown (s .built) (s .host) q) script d

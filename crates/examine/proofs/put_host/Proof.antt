@@ -6,9 +6,9 @@ use mathlib.Core.List.{List}
 use borrow.Author.Needs.{needs}
 use Rattle.host.specs.declared.Host.{Host}
 use Rattle.records.specs.declared.Record.{Record}
-use Rattle.reads.specs.Reads.{readsText, reads-placed}
+use Rattle.test_reads.specs.Reads.{readsText, reads-placed}
 use Rattle.text.specs.Places.{Placed, placed-none}
-use Rattle.script.proofs.Turns.{placed-as}
+use Rattle.script.proofs.Laws.{placed-as}
 use Rattle.examine.specs.Examine.{queryOf, hostShown}
 use Rattle.examine.proofs.put_host.Statement.{statement}
 use Rattle.examine.proofs.put_host.Tie as tie

@@ -2,57 +2,57 @@
 use mathlib.Core.Path.{_∙_, ap}
 use borrow.Author.Needs.{needs}
 use Rattle.host.specs.Step.{step}
-use Rattle.host.specs.Handed.{handedBy, byPolicy, handedAfter}
+use Rattle.host.specs.Outcomes.{systemHands, policyHands, advanceHands}
 use Rattle.host.proofs.step.Statement.{statement}
 use Rattle.host.proofs.step.Tie as tie
 
 admits : tie.Need-returns
 unfolding step
-admits c = rw (c .before .before .before .call .given .1) (c .by-system .ensures ∙ ap (handedBy _) (c .before .admit .ensures))
+admits c = rw (c .before .before .before .call .given .1) (c .by-system .ensures ∙ ap (systemHands _) (c .before .admit .ensures))
 
 runs : tie.Need-returns-2
 unfolding step
-runs c = rw (c .before .before .before .call2 .given .1) (c .by-system2 .ensures ∙ ap (handedBy _) (c .before .run .ensures))
+runs c = rw (c .before .before .before .call2 .given .1) (c .by-system2 .ensures ∙ ap (systemHands _) (c .before .run .ensures))
 
 preempts : tie.Need-returns-3
 unfolding step
-preempts c = rw (c .before .before .before .call3 .given .1) (c .by-system3 .ensures ∙ ap (handedBy _) (c .before .preempt .ensures))
+preempts c = rw (c .before .before .before .call3 .given .1) (c .by-system3 .ensures ∙ ap (systemHands _) (c .before .preempt .ensures))
 
 blocks : tie.Need-returns-4
 unfolding step
-blocks c = rw (c .before .before .before .call4 .given .1) (c .by-system4 .ensures ∙ ap (handedBy _) (c .before .block .ensures))
+blocks c = rw (c .before .before .before .call4 .given .1) (c .by-system4 .ensures ∙ ap (systemHands _) (c .before .block .ensures))
 
 wakes : tie.Need-returns-5
 unfolding step
-wakes c = rw (c .before .before .before .call5 .given .1) (c .by-system5 .ensures ∙ ap (handedBy _) (c .before .wake .ensures))
+wakes c = rw (c .before .before .before .call5 .given .1) (c .by-system5 .ensures ∙ ap (systemHands _) (c .before .wake .ensures))
 
 offlines : tie.Need-returns-6
 unfolding step
-offlines c = rw (c .before .before .before .call6 .given .1) (c .by-system6 .ensures ∙ ap (handedBy _) (c .before .offline .ensures))
+offlines c = rw (c .before .before .before .call6 .given .1) (c .by-system6 .ensures ∙ ap (systemHands _) (c .before .offline .ensures))
 
 offline-alls : tie.Need-returns-7
 unfolding step
-offline-alls c = rw (c .before .before .before .call7 .given .1) (c .by-system7 .ensures ∙ ap (handedBy _) (c .before .offline-all .ensures))
+offline-alls c = rw (c .before .before .before .call7 .given .1) (c .by-system7 .ensures ∙ ap (systemHands _) (c .before .offline-all .ensures))
 
 set-affinitys : tie.Need-returns-8
 unfolding step
-set-affinitys c = rw (c .before .before .before .call8 .given .1) (c .by-system8 .ensures ∙ ap (handedBy _) (c .before .set-affinity .ensures))
+set-affinitys c = rw (c .before .before .before .call8 .given .1) (c .by-system8 .ensures ∙ ap (systemHands _) (c .before .set-affinity .ensures))
 
 set-weights : tie.Need-returns-9
 unfolding step
 set-weights c =
     rw (c .before .before .before .call9 .given .1)
-    (c .by-policy .ensures ∙ ap (byPolicy _) (c .before .set-weight .ensures))
+    (c .by-policy .ensures ∙ ap (policyHands _) (c .before .set-weight .ensures))
 
 set-wake-boosts : tie.Need-returns-10
 unfolding step
 set-wake-boosts c =
     rw (c .before .before .before .call10 .given .1)
-    (c .by-policy2 .ensures ∙ ap (byPolicy _) (c .before .set-wake-boost .ensures))
+    (c .by-policy2 .ensures ∙ ap (policyHands _) (c .before .set-wake-boost .ensures))
 
 advances : tie.Need-returns-11
 unfolding step
-advances c = rw (c .before .before .before .call11 .given .1) (c .by-advance .ensures ∙ ap handedAfter (c .before .advance .ensures))
+advances c = rw (c .before .before .before .call11 .given .1) (c .by-advance .ensures ∙ ap advanceHands (c .before .advance .ensures))
 
 pub step-spec : {M : Type 1} → statement M
 step-spec =

@@ -5,11 +5,11 @@ use mathlib.Core.Logic.{⊎-elim}
 use native.Mathlib.Numerals.{add-one}
 use native.Mathlib.Omega.{arith}
 use borrow.Author.Needs.{needs}
-use Rattle.moves.specs.Scan.{scan}
+use Rattle.scan.specs.Scan.{scan}
 use Rattle.moves.specs.Decide.{placement, chosen}
 use Rattle.moves.specs.Table.{tabled}
-use Rattle.moves.specs.Loops.{LeadsChosen, none}
-use Rattle.moves.proofs.Chosen.{skips, unplaced, takes, stays}
+use Rattle.moves.specs.Internal.{LeadsChosen, none}
+use Rattle.moves.proofs.PlacementLoop.{skips, unplaced, takes, stays}
 use Rattle.moves.proofs.best_placement.Statement.{statement}
 use Rattle.moves.proofs.best_placement.Tie as tie
 

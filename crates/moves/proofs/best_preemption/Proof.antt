@@ -5,11 +5,11 @@ use mathlib.Core.Logic.{⊎-elim}
 use native.Mathlib.Numerals.{add-one}
 use native.Mathlib.Omega.{arith}
 use borrow.Author.Needs.{needs}
-use Rattle.moves.specs.Scan.{scan}
+use Rattle.scan.specs.Scan.{scan}
 use Rattle.moves.specs.Decide.{victim}
 use Rattle.moves.specs.Table.{tabled}
-use Rattle.moves.specs.Loops.{none}
-use Rattle.moves.proofs.Victim.{Leading, skips, unbeaten, takes, stays}
+use Rattle.moves.specs.Internal.{none}
+use Rattle.moves.proofs.PreemptionLoop.{Leading, skips, unbeaten, takes, stays}
 use Rattle.moves.proofs.best_preemption.Statement.{statement}
 use Rattle.moves.proofs.best_preemption.Tie as tie
 

@@ -3,10 +3,10 @@ use mathlib.Core.Path.{_≡_, _∙_, ap}
 use mathlib.Core.Logic.{⊎-elim}
 use Prim.Native.Nat.{ℕ}
 use borrow.Author.Needs.{needs}
-use Rattle.moves.specs.Scan.{nobody}
+use Rattle.scan.specs.Scan.{nobody}
 use Rattle.moves.specs.Decide.{chosen}
 use Rattle.moves.specs.Table.{tabled}
-use Rattle.moves.proofs.Decided.{none-found, none-idle, ran, stopped, rested}
+use Rattle.moves.proofs.Leaders.{none-found, none-idle, ran, stopped, rested}
 use Rattle.moves.proofs.decide.Statement.{statement}
 use Rattle.moves.proofs.decide.Tie as tie
 

@@ -7,11 +7,11 @@ use native.Mathlib.Numerals.{add-one}
 use native.Mathlib.Omega.{arith}
 use borrow.Author.Needs.{needs}
 use borrow.Author.Tests.{eq-eqb, ne-eqb}
-use Rattle.moves.specs.Scan.{scan}
+use Rattle.scan.specs.Scan.{scan}
 use Rattle.moves.specs.Decide.{beaten}
 use Rattle.moves.specs.DecideLaws.{by-beaten}
 use Rattle.moves.specs.Table.{tabled}
-use Rattle.moves.proofs.Beaten.{unbeaten, admits-same, beats-same}
+use Rattle.moves.proofs.BeatenLoop.{unbeaten, admits-same, beats-same}
 use Rattle.moves.proofs.some_affine_waiter_beats.Statement.{statement}
 use Rattle.moves.proofs.some_affine_waiter_beats.Tie as tie
 

@@ -7,10 +7,10 @@ use native.Mathlib.Omega.{arith}
 use lib.ListN.{length-map}
 use borrow.Author.Needs.{needs}
 use Rattle.system.specs.Reads.{vcpuAt}
-use Rattle.policy.specs.Standing.{slots}
+use Rattle.system.specs.Slots.{slots}
 use Rattle.policy.specs.Accounting.{renewFirst, accounted}
 use Rattle.policy.proofs.AccountLaws.{Tabled}
-use Rattle.policy.proofs.RenewalTurns.{renews, outside-vcpus, outside-domains}
+use Rattle.policy.proofs.RenewalLoop.{renews, outside-vcpus, outside-domains}
 use Rattle.policy.proofs.accounted.Statement.{statement}
 use Rattle.policy.proofs.accounted.Tie as tie
 

@@ -7,15 +7,15 @@ use native.Mathlib.Omega.{arith}
 use lib.ListN.{length-map}
 use borrow.Author.Needs.{needs}
 use Rattle.system.specs.Reads.{vcpuAt}
-use Rattle.moves.specs.Scan.{scan}
+use Rattle.system.specs.Slots.{slots}
+use Rattle.scan.specs.Scan.{scan}
 use Rattle.policy.specs.declared.Account.{Account}
-use Rattle.policy.specs.Standing.{slots}
 use Rattle.policy.specs.Accounting.{floor}
 use Rattle.policy.proofs.AccountLaws.{Tabled}
-use Rattle.policy.specs.Loops.{leader, Leads, none}
+use Rattle.policy.specs.Internal.{leader, Leads, none}
 use Rattle.policy.proofs.Ids.{vcpu-below, vcpu-beyond}
-use Rattle.policy.proofs.Stored.{looked}
-use Rattle.policy.proofs.FloorTurns.{floorOf, turned, absent}
+use Rattle.policy.proofs.AccountReads.{looked}
+use Rattle.policy.proofs.FloorLoop.{floorOf, turned, absent}
 use Rattle.policy.proofs.floor.Statement.{statement}
 use Rattle.policy.proofs.floor.Tie as tie
 

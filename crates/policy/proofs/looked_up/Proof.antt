@@ -1,6 +1,6 @@
 -- `policy::looked_up` meets its contract. Assumes nothing.
 use borrow.Author.Needs.{needs}
-use Rattle.system.proofs.Held.{below, beyond}
+use Rattle.system.proofs.Laws.{below, beyond}
 use Rattle.policy.proofs.Ids.{vcpu-below, vcpu-beyond}
 use Rattle.policy.proofs.looked_up.Statement.{statement}
 use Rattle.policy.proofs.looked_up.Tie as tie

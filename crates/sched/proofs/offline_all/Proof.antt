@@ -1,20 +1,21 @@
 -- `sched::offline_all` meets its contract: after u turns of the loop the first u vCPUs are taken offline. Assumes nothing.
 use Prim.Native.Nat.{_-_, _≤_, _<_, zero-le}
 use mathlib.Core.Bool.{true}
-use mathlib.Core.Path.{_≡_, refl, sym, _∙_, ap, subst}
-use mathlib.Core.Logic.{⊎-elim}
+use mathlib.Core.Path.{_≡_, refl, sym, _∙_, ap}
 use native.Mathlib.Numerals.{add-one}
 use native.Mathlib.Omega.{arith}
 use lib.ListN.{length-map}
 use borrow.Author.Needs.{needs}
 use borrow.Author.Tests.{not-true, not-false, lt-ltb, le-ltb}
-use Rattle.system.specs.Reads.{domains, vcpus, vcpuAt}
-use Rattle.system.specs.Writes.{putVcpu, putOccupant, Tables}
+use Rattle.system.specs.Reads.{vcpuAt}
+use Rattle.system.specs.Writes.{Tables}
+use Rattle.system.specs.Slots.{domains, vcpus, slot, slot-below, slot-who}
+use Rattle.verdict.specs.Sound.{Sound, sound-iff}
 use Rattle.verdict.specs.Violations.{invariantsHold}
-use Rattle.sched.specs.Steps.{done, applied, offlineFirst, offlineAll}
-use Rattle.sched.specs.Slots.{InTable}
-use Rattle.sched.proofs.Lookup.{sound}
-use Rattle.sched.proofs.Turns.{turn, turn-in-table, turned}
+use Rattle.changes.specs.declared.Request.{Request}
+use Rattle.sched.specs.Steps.{done, changeOf, offlineFirst, offlineAll}
+use Rattle.sched.proofs.Stores.{made-by-stores}
+use Rattle.sched.proofs.OfflineAllLoop.{Turn, next-turn, turn-change, turn-in-table, turned}
 use Rattle.sched.proofs.offline_all.Statement.{statement}
 use Rattle.sched.proofs.offline_all.Tie as tie
 
@@ -26,6 +27,9 @@ abbrev μ-loop : tie.MeasureT-loop
 
 hold : (c : tie.Else1 Inv-loop μ-loop) → invariantsHold (c .before .before .args .t1) ≡ true
 hold c = sym (c .before .invariants-hold .ensures) ∙ not-false _ (c .if1 .left)
+
+sound : (c : tie.Else1 Inv-loop μ-loop) → Sound (c .before .before .args .t1)
+sound c = sound-iff _ .0 (hold c)
 
 unsound : tie.Need-returns Inv-loop μ-loop
 unfolding offlineAll
@@ -49,50 +53,45 @@ tables c =
     let f = c .good .0 .1 .1 .1 .1 .1 in
     record { vcpus = rw length-map at (f .0 .1 .0 .1); pcpus = rw length-map at (f .1 .0 .1 .0 .1) }
 
--- the domain and the vCPU of a turn exist
 domain-in : (c : tie.Else2 Inv-loop μ-loop) → let a = c .before .before .before .args in a .dom < domains (a .t1)
-domain-in c = let S = sound _ (hold (c .before)) in omega (arith, S .domains, c .if2 .left)
+domain-in c = let S = sound (c .before) in omega (arith, S .domains, c .if2 .left)
 
 vcpu-in : (c : tie.In-loop Inv-loop μ-loop) → c .before .loop .u < vcpus (c .before .before .before .before .before .before .args .t1)
-vcpu-in c = let S = sound _ (hold (c .before .before .before .before)) in omega (arith, S .vcpus, c .loop-test .taken)
+vcpu-in c = let S = sound (c .before .before .before .before) in omega (arith, S .vcpus, c .loop-test .taken)
+
+-- what is known at a turn
+turn : (c : tie.In-loop Inv-loop μ-loop) →
+    let l = c .before in
+    let a = l .before .before .before .before .before .args in
+    Turn (a .t1) (l .loop .s) (a .dom) (a .now) (l .loop .u)
+turn c =
+    let d = c .before .before .before in
+    let S = sound (d .before) in
+    next-turn (c .before .loop .inv .0) (tables (d .before .before .before)) S (domain-in d) (vcpu-in c)
 
 slot-in : tie.Need-element-copy-out-v Inv-loop μ-loop
-slot-in c = omega (arith, domain-in (c .before .before .before), vcpu-in c)
+slot-in c = slot-below (turn c .present)
 
--- what a turn does is the definition's
 change :
-    (c : tie.After-offlined Inv-loop μ-loop) →
+    (c : tie.After-changed Inv-loop μ-loop) →
     let l = c .before .before .before in
     let a = l .before .before .before .before .before .args in
-    c .offlined .result ≡ turn (a .t1) (l .loop .s) (a .dom) (a .now) (l .loop .u)
+    c .changed .result ≡ changeOf (l .loop .s) (slot (a .dom) (l .loop .u)) (Request.Offline (a .now))
 unfolding vcpuAt
-change c = c .offlined .ensures ∙ rw (c .before .before .before .before .full-mask .ensures)
+change c = c .changed .ensures ∙ rw (c .before .before .before .before .full-mask .ensures) (turn-change (turn (c .before .before)))
 
-seat-in : tie.Need-element-set-from-s Inv-loop μ-loop
-seat-in c =
-    let o = c .before .before .before in
-    let t = o .before .before in
-    let l = t .before in
-    let d = l .before .before in
-    let a = d .before .before .before .args in
-    let T = tables (d .before .before .before) in
-    let S = sound _ (hold (d .before)) in
-    subst InTable (sym (change o) ∙ c .before .change2 .given .1)
-    (turn-in-table (a .t1) (l .loop .s) (a .dom) (a .now) (l .loop .u) (l .loop .inv .0) T S (domain-in d) (vcpu-in t))
+pcpu-in : tie.Need-element-copy-out-c Inv-loop μ-loop
+pcpu-in c = rw (c .pcpu-of .ensures, change (c .before)) (turn-in-table (turn (c .before .before .before)))
 
 loop-again : tie.Need-loop-again Inv-loop μ-loop
-unfolding applied putVcpu putOccupant
 loop-again c =
-    let o = c .before in
-    let l = o .before .before .before in
-    let a = l .before .before .before .before .before .args in
-    let after = turned (a .t1) (l .loop .s) (a .dom) (a .now) (l .loop .u) (l .loop .inv .0) (change o) in
-    let t = o .before .before .loop-test .taken in (
+    let r = c .before .before in
+    let p = r .before .before in
+    let t = p .before .before .before in
+    let l = t .loop-test .taken in (
       rw add-one
-          (⊎-elim
-          (λ w. after _ (w .1 .given .1) (w .2))
-          (⊎-elim (λ w. after _ (w .1 .given .1) (w .3)) (λ w. after _ (w .1 .given .1) (w .3)))
-          (c .match .came)),
+          (turned (turn t)
+          (made-by-stores _ _ (change (p .before)) (sym (slot-who _ _ (omega (arith, vcpu-in t)))) (p .pcpu-of .ensures) (r .stored .ensures))),
       omega arith,
     )
 
@@ -102,7 +101,7 @@ all-off c =
     let l = c .before in
     let d = l .before .before in
     let a = d .before .before .before .args in
-    let S = sound _ (hold (d .before)) in
+    let S = sound (d .before) in
     let e : l .loop .u ≡ vcpus (a .t1) = omega (arith, S .vcpus, l .loop .inv .1, c .loop-test .left) in
     rw (hold (d .before), lt-ltb (a .dom) (domains (a .t1)) (domain-in d))
     (ap done (l .loop .inv .0 ∙ ap (offlineFirst (a .t1) (a .dom) (a .now)) e))
@@ -125,17 +124,16 @@ offline-all-spec =
     (λ c. let h = slot-in c in omega arith)
     slot-in
     (λ c κs. search needs)
-    (λ c. search needs)
-    (λ c. search needs)
-    (λ c. let h = slot-in (c .before .before .before .before .before) in omega arith)
-    (λ c. slot-in (c .before .before .before .before .before))
-    (λ c. search needs)
-    (λ c. let h = seat-in c in omega arith)
-    (λ c. let h = slot-in (c .before .before .before .before .before) in omega arith)
-    (λ c. slot-in (c .before .before .before .before .before))
-    (λ c. let h = seat-in c in omega arith)
-    seat-in
-    (λ c. let l = c .before .before .before .loop-test .taken in omega arith)
-    (λ c. let l = c .before .before .before .loop-test .taken in omega arith)
+    (λ c κs. search needs)
+    (λ c. let h = pcpu-in c in omega arith)
+    pcpu-in
+    (λ c. let n = vcpu-in (c .before .before .before .before) in omega arith)
+    (λ c κs. search needs)
+    (λ c. let h = slot-in (c .before .before .before .before .before .before .before) in omega arith)
+    (λ c. slot-in (c .before .before .before .before .before .before .before))
+    (λ c. let h = pcpu-in (c .before .before .before .before) in omega arith)
+    (λ c. pcpu-in (c .before .before .before .before))
+    (λ c. let l = c .before .before .before .before .before .before .before .loop-test .taken in omega arith)
+    (λ c. let l = c .before .before .before .before .before .before .before .loop-test .taken in omega arith)
     loop-again
     all-off)

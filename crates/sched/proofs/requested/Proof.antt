@@ -1,105 +1,73 @@
 -- `sched::requested` meets its contract. Assumes nothing.
-use mathlib.Core.Bool.{true}
-use mathlib.Core.Path.{_≡_, sym, _∙_, ap, subst}
+use mathlib.Core.Path.{_≡_, sym, _∙_}
 use native.Mathlib.Omega.{arith}
 use borrow.Author.Needs.{needs}
-use borrow.Author.Tests.{not-true, not-false}
-use Rattle.system.specs.Reads.{vcpuAt, fullAffinity}
-use Rattle.verdict.specs.Violations.{invariantsHold}
+use Rattle.system.specs.Reads.{vcpuAt}
+use Rattle.system.specs.Slots.{slot-below}
 use Rattle.sched.specs.declared.Slot.{Slot}
-use Rattle.sched.specs.Slots.{InTable}
-use Rattle.sched.proofs.Legal.{slot-below}
-use Rattle.sched.specs.Steps.{changed, applied, requested}
-use Rattle.sched.proofs.Lookup.{toldOf, Located, located, requested-told, changed-in-table}
-use Rattle.sched.proofs.Stored.{in-table-below, stored}
+use Rattle.sched.specs.Steps.{changeOf, requested}
+use Rattle.sched.proofs.Lookup.{Tells, Found, looked, found-in-table}
+use Rattle.sched.proofs.Stores.{made-by-stores}
 use Rattle.sched.proofs.requested.Statement.{statement}
 use Rattle.sched.proofs.requested.Tie as tie
 
-hold : (c : tie.Else1) → invariantsHold (c .before .args .t2) ≡ true
-hold c = sym (c .before .pre) ∙ not-false _ (c .if1 .left)
-
-unsound : tie.Need-returns
-unfolding requested
-unsound c = rw (sym (c .before .before .pre) ∙ not-true _ (c .before .if1 .taken)) (c .refused .ensures)
-
--- what the call is told of the slot
+-- what is told by the slot that was found
 told : (c : tie.After-slot-of) {x : Slot} → c .slot-of .result ≡ x →
     let a = c .before .before .args in
-    requested (a .t2) (a .dom) (a .vcpu) (a .request)
-    ≡ toldOf (a .t2) (λ i. applied (a .t2) i (changed (a .request) (fullAffinity (a .t2)) (vcpuAt (a .t2) i))) x
+    Tells (a .t2) (a .dom) (a .vcpu) (a .request) (requested (a .t2) (a .dom) (a .vcpu) (a .request)) x
 told c e =
-    let a = c .before .before .args in
-    requested-told (a .t2) (hold (c .before)) (a .dom) (a .vcpu) (a .request) ∙ ap (toldOf (a .t2) _) (sym (c .slot-of .ensures) ∙ e)
-
-no-domain : tie.Need-returns-2
-no-domain c = c .refused2 .ensures ∙ sym (told (c .before .before .before) (c .before .enum-told .given .1))
-
-no-vcpu : tie.Need-returns-3
-no-vcpu c = c .refused3 .ensures ∙ sym (told (c .before .before .before) (c .before .enum-told2 .given .1))
+    let b = c .before in
+    let a = b .before .args in
+    looked (a .t2) (a .dom) (a .vcpu) (a .request) (b .before .pre) (b .reaches .ensures) (sym (c .slot-of .ensures) ∙ e)
 
 -- the vCPU is there
-at : (c : tie.After-known-told) →
+at : (c : tie.After-known-told2) →
     let a = c .before .before .before .before .before .args in
-    Located (a .t2) (a .dom) (a .vcpu) (c .before .slot .given .0 .0)
-at c =
-    let l = c .before .before .before in
-    located _ (hold (l .before)) _ _ (sym (l .slot-of .ensures) ∙ c .before .slot .given .1)
+    Found (a .t2) (a .dom) (a .vcpu) (a .request) (requested (a .t2) (a .dom) (a .vcpu) (a .request)) (c .before .slot2 .given .0 .0)
+at c = told (c .before .before .before) (c .before .slot2 .given .1)
 
-in-table : tie.Need-element-copy-out-v
-in-table c = slot-below (at c .present)
+slot-in : tie.Need-element-copy-out-v
+slot-in c = slot-below (at c .present)
 
 -- the change is the definition's, and its pCPU is in the table
 change :
     (c : tie.After-changed) →
     let k = c .before .before .before in
     let a = k .before .before .before .before .before .args in
-    c .changed .result ≡ changed (a .request) (fullAffinity (a .t2)) (vcpuAt (a .t2) (k .before .slot .given .0 .0))
+    c .changed .result ≡ changeOf (a .t2) (k .before .slot2 .given .0 .0) (a .request)
 unfolding vcpuAt
 change c = c .changed .ensures ∙ rw (c .before .full-mask .ensures)
 
-index-in : tie.Need-element-copy-out-c
-index-in c =
-    let k = c .before .before .before .before in
-    let e = k .before .before .before .before in
-    let a = e .before .args in
-    let in-table = changed-in-table (a .t2) (hold e) (a .dom) (a .vcpu) (a .request) (at k) in
-    rw (c .pcpu-of .ensures) (in-table-below (c .before .changed .result) (subst InTable (sym (change (c .before))) in-table))
+pcpu-in : tie.Need-element-copy-out-c
+pcpu-in c = rw (c .pcpu-of .ensures, change (c .before)) (found-in-table _ _ _ _ (at (c .before .before .before .before)))
 
-there : tie.Need-returns-4
-unfolding vcpuAt
+there : tie.Need-returns-2
 there c =
-    let p = c .before .before .before .before in
-    let k = p .before .before .before .before in
-    let s = k .before .before .before .before .before .args .t2 in
-    stored s _ (change (p .before)) (p .pcpu-of .ensures) (c .before .before .vcpu-after .ensures) (c .before .pcpu-after .ensures) (c .answer-of .ensures)
-    ∙ sym (told (k .before .before .before) (k .before .slot .given .1))
+    let r = c .before .before in
+    let p = r .before .before in
+    let k = at (p .before .before .before .before) in
+    made-by-stores _ _ (change (p .before)) (sym (k .who)) (p .pcpu-of .ensures) (r .stored .ensures) ∙ sym (k .told)
 
 pub requested-spec : {M : Type 1} → statement M
 requested-spec =
     tie.close
     (tie.spec
     (λ c κs. search needs)
-    unsound
     (λ c κs. search needs)
     (λ c. search needs)
     (λ c κs. search needs)
-    no-domain
+    (λ c. c .refused .ensures ∙ sym (told (c .before .before .before .before) (c .before .before .slot .given .1)))
     (λ c. search needs)
-    (λ c κs. search needs)
-    no-vcpu
-    (λ c. search needs)
-    (λ c. let h = in-table c in omega arith)
-    in-table
+    (λ c. let h = slot-in c in omega arith)
+    slot-in
     (λ c κs. search needs)
     (λ c κs. search needs)
     (λ c κs. search needs)
-    (λ c. let h = index-in c in omega arith)
-    index-in
+    (λ c. let h = pcpu-in c in omega arith)
+    pcpu-in
     (λ c κs. search needs)
-    (λ c. let h = in-table (c .before .before .before .before .before .before) in omega arith)
-    (λ c. in-table (c .before .before .before .before .before .before))
-    (λ c κs. search needs)
-    (λ c. let h = index-in (c .before .before .before) in omega arith)
-    (λ c. index-in (c .before .before .before))
-    (λ c κs. search needs)
+    (λ c. let h = slot-in (c .before .before .before .before .before .before .before .before) in omega arith)
+    (λ c. slot-in (c .before .before .before .before .before .before .before .before))
+    (λ c. let h = pcpu-in (c .before .before .before .before) in omega arith)
+    (λ c. pcpu-in (c .before .before .before .before))
     there)

@@ -2,7 +2,7 @@
 use mathlib.Core.Path.{ap, _∙_}
 use Prim.Native.Nat.{ℕ}
 use borrow.Author.Needs.{needs}
-use Rattle.sched.specs.declared.Request.{Request}
+use Rattle.changes.specs.declared.Request.{Request}
 use Rattle.sched.specs.Steps.{requested}
 use Rattle.sched.proofs.set_affinity.Statement.{statement}
 use Rattle.sched.proofs.set_affinity.Tie as tie

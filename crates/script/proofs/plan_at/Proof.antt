@@ -3,7 +3,7 @@ use Prim.Native.Nat.{_*_}
 use mathlib.Core.Path.{_∙_, ap}
 use borrow.Author.Needs.{needs}
 use Rattle.records.specs.Records.{planOf}
-use Rattle.script.proofs.Turns.{left-of}
+use Rattle.script.proofs.ReplayLoop.{left-of}
 use Rattle.script.proofs.plan_at.Statement.{statement}
 use Rattle.script.proofs.plan_at.Tie as tie
 

@@ -5,7 +5,8 @@ use mathlib.Core.List.{List}
 use native.Mathlib.Numerals.{add-one}
 use native.Mathlib.Omega.{arith}
 use borrow.Author.Needs.{needs}
-use Rattle.system.specs.Reads.{pcpus, occupantAt}
+use Rattle.system.specs.Reads.{occupantAt}
+use Rattle.system.specs.Slots.{pcpus}
 use Rattle.text.specs.Places.{Placed, placed-none, placed-then}
 use Rattle.script.specs.Rows.{pcpuRows}
 use Rattle.script.proofs.put_pcpus.Statement.{statement}

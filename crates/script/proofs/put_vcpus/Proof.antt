@@ -7,14 +7,15 @@ use lib.ListN.{length, getD, length-map}
 use native.Mathlib.Numerals.{add-one}
 use native.Mathlib.Omega.{arith}
 use borrow.Author.Needs.{needs}
-use Rattle.system.specs.Reads.{domains, vcpus, vcpuAt}
+use Rattle.system.specs.Reads.{vcpuAt}
 use Rattle.text.specs.Places.{Placed, placed-none, placed-then}
 use Rattle.system.specs.declared.VirtualCpu.{VirtualCpu}
 use Rattle.system.specs.declared.System.{System}
+use Rattle.system.specs.Slots.{domains, vcpus}
 use Rattle.policy.specs.declared.Account.{Account}
 use Rattle.policy.specs.declared.Scheduler.{Scheduler}
 use Rattle.policy.specs.Accounts.{plain, covers, usedWeight}
-use Rattle.policy.proofs.Stored.{zeros, looked}
+use Rattle.policy.proofs.Laws.{zeros, looked}
 use Rattle.script.specs.Rows.{slotRow, vcpuRow, vcpuRows}
 use Rattle.script.proofs.put_vcpus.Statement.{statement}
 use Rattle.script.proofs.put_vcpus.Tie as tie

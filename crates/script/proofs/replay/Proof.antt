@@ -5,7 +5,7 @@ use lib.ListN.{length}
 use native.Mathlib.Omega.{arith}
 use borrow.Author.Needs.{needs}
 use Rattle.script.specs.Script.{taken, Replayed}
-use Rattle.script.proofs.Turns.{room-least}
+use Rattle.script.proofs.ReplayLoop.{room-least}
 use Rattle.script.proofs.replay.Statement.{statement}
 use Rattle.script.proofs.replay.Tie as tie
 

@@ -10,19 +10,19 @@ use native.Mathlib.Omega.{arith}
 use borrow.Author.Needs.{needs}
 use Rattle.text.specs.Places.{Placed, placed-none}
 use Rattle.host.specs.declared.Outcome.{Outcome}
-use Rattle.host.specs.Handed.{handed}
+use Rattle.host.specs.Outcomes.{hostOutcome}
 use Rattle.script.specs.declared.Script.{Script}
 use Rattle.script.specs.declared.Taken.{Taken}
-use Rattle.script.specs.Script.{carried, builtAfter, after, next, lineTold, hostShown, room, Replayed}
+use Rattle.script.specs.Script.{carried, builtAfter, scriptAfter, scriptNext, lineTold, hostShown, room, Replayed}
 use Rattle.script.specs.Script as specs
-use Rattle.script.proofs.Turns.{scriptOf, Turn, turn-next, turn-line, text-more, shown, hidden, room-left, room-least}
-use Rattle.script.proofs.Turns.{told-refused, told-built, told-called, room-taken, room-asked, room-more, placed-as}
+use Rattle.script.proofs.ReplayLoop.{scriptOf, Turn, turn-next, turn-line, text-more, shown, hidden, room-left, room-least}
+use Rattle.script.proofs.ReplayLoop.{told-refused, told-built, told-called, room-taken, room-asked, room-more, placed-as}
 use Rattle.script.proofs.stepped.Statement.{statement}
 use Rattle.script.proofs.stepped.Tie as tie
 
 abbrev Inv-loop : tie.InvT-loop
 Inv-loop bytes out₀ states n number₀ built₀ h₀ written₀ i₀ out number built h written i =
-    (scriptOf number built h ≡ after (scriptOf number₀ built₀ h₀) bytes i)
+    (scriptOf number built h ≡ scriptAfter (scriptOf number₀ built₀ h₀) bytes i)
     × Placed out₀ 0 (specs.text states (scriptOf number₀ built₀ h₀) bytes i) out written
     × (i ≤ n)
     × (written ≤ i * room states)
@@ -48,7 +48,7 @@ abbrev outcomeOf : tie.At-match-came Inv-loop μ-loop → Outcome
 outcomeOf m = record { host = m .match .h; answer = m .match .answer; count = m .match .moves }
 
 -- whichever arm was taken, the host was told what the definition says
-carries : (m : tie.At-match-came Inv-loop μ-loop) → handed (outcomeOf m) ≡ carried (head m .loop .h) (m .before .plan-at .result)
+carries : (m : tie.At-match-came Inv-loop μ-loop) → hostOutcome (outcomeOf m) ≡ carried (head m .loop .h) (m .before .plan-at .result)
 carries m =
     let h = head m .loop .h in
     ⊎-elim
@@ -126,11 +126,11 @@ joined c =
     (c .if1 .came)
 
 loop-holds : tie.Need-loop-holds Inv-loop μ-loop
-unfolding after specs.text
+unfolding scriptAfter specs.text
 loop-holds c = (refl, placed-none (c .before .before .before .args .out .now) 0, zero-le, zero-le, refl)
 
 loop-again : tie.Need-loop-again Inv-loop μ-loop
-unfolding after
+unfolding scriptAfter
 loop-again c =
     let m = met c in
     let l = head m in
@@ -140,12 +140,12 @@ loop-again c =
     let s = joined c in
     let found = l .loop .inv .0 in
     let test = inside m .loop-test .taken in
-    let here = turn-next t ∙ ap (λ (x : Script). next x (left l)) found in
+    let here = turn-next t ∙ ap (λ (x : Script). scriptNext x (left l)) found in
     let line = placed-as (put .ensures .0) (turn-line t ∙ ap (λ (x : Script). lineTold x (left l)) found) refl refl in
     let state = placed-as (s .placed) (ap (hostShown (a .states)) here) refl refl in
     let fits = space l test in
     let more = text-more (a .states) (a .script) (a .bytes .now) (l .loop .i) (l .loop .inv .1) (omega (arith, fits)) line state in (
-      here ∙ sym (ap (after (a .script) (a .bytes .now)) (add-one (l .loop .i))),
+      here ∙ sym (ap (scriptAfter (a .script) (a .bytes .now)) (add-one (l .loop .i))),
       subst (λ (n : ℕ). Placed (a .out .now) 0 (specs.text (a .states) (a .script) (a .bytes .now) n) (c .if1 .out) (c .if1 .written)) (sym (add-one (l .loop .i))) more,
       omega (arith, test),
       room-more (l .loop .i) (room (a .states)) (c .if1 .written) (omega (arith, s .short, put .ensures .1, l .loop .inv .3)),
@@ -174,7 +174,7 @@ returns c =
     let whole : l .loop .written ≤ length (l .loop .out) = omega (arith, took, l .loop .inv .4) in
     let placed = subst (λ (n : ℕ). Placed (a .out .now) 0 (specs.text (a .states) (a .script) (a .bytes .now) n) (l .loop .out) (l .loop .written)) all (l .loop .inv .1) in
     subst⁻¹ (λ (r : Taken). Replayed (a .states) (a .script) (a .bytes .now) (a .n) (a .out .now) r (l .loop .out)) (c .taken-of .ensures)
-    (record { script = l .loop .inv .0 ∙ ap (after (a .script) (a .bytes .now)) all; records = refl; placed = placed; whole = whole })
+    (record { script = l .loop .inv .0 ∙ ap (scriptAfter (a .script) (a .bytes .now)) all; records = refl; placed = placed; whole = whole })
 
 pub stepped-spec : {M : Type 1} → statement M
 stepped-spec =

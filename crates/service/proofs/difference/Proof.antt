@@ -6,7 +6,7 @@ use mir.Val.{Fits}
 use borrow.Author.Needs.{needs}
 use Rattle.service.specs.Service.{value, held}
 use Rattle.service.specs.Laws.{value-below}
-use Rattle.service.proofs.Holding.{nothing-is-over, what-is-over}
+use Rattle.service.proofs.Saturation.{nothing-is-over, what-is-over}
 use Rattle.service.proofs.difference.Statement.{statement}
 use Rattle.service.proofs.difference.Tie as tie
 

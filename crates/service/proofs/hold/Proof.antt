@@ -2,7 +2,7 @@
 use mathlib.Core.Path.{sym, _∙_}
 use borrow.Author.Needs.{needs}
 use Rattle.service.specs.Service.{limbs}
-use Rattle.service.proofs.Holding.{nothing-carried, something-carried}
+use Rattle.service.proofs.Saturation.{nothing-carried, something-carried}
 use Rattle.service.proofs.hold.Statement.{statement}
 use Rattle.service.proofs.hold.Tie as tie
 

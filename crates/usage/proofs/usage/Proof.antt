@@ -5,9 +5,10 @@ use native.Mathlib.Numerals.{add-one}
 use native.Mathlib.Omega.{arith}
 use borrow.Author.Needs.{needs}
 use Rattle.service.specs.Service.{value, limbs, held}
-use Rattle.system.specs.Reads.{slot, vcpuAt}
+use Rattle.system.specs.Reads.{vcpuAt}
+use Rattle.system.specs.Slots.{slot}
 use Rattle.usage.specs.Usage.{runtimes}
-use Rattle.usage.proofs.Inside.{inside}
+use Rattle.usage.proofs.Bounds.{inside}
 use Rattle.service.specs.Laws.{held-sum-both}
 use Rattle.usage.proofs.usage.Statement.{statement}
 use Rattle.usage.proofs.usage.Tie as tie

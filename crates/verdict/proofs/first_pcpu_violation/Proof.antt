@@ -9,7 +9,7 @@ use Rattle.system.specs.Reads.{vcpuAt, occupantAt}
 use Rattle.verdict.specs.declared.Violation.the-variants.{None}
 use Rattle.verdict.specs.Violations.{pcpuViolation, earliest}
 use Rattle.verdict.specs.Sound.{is-none}
-use Rattle.verdict.proofs.Scan.{step, stop, counts, holder-slot-below, pcpu-told}
+use Rattle.verdict.proofs.VerdictScan.{step, stop, counts, holder-slot-below, pcpu-told}
 use Rattle.verdict.proofs.first_pcpu_violation.Statement.{statement}
 use Rattle.verdict.proofs.first_pcpu_violation.Tie as tie
 
@@ -24,7 +24,7 @@ unfolding earliest
 loop-holds c = (refl, zero-le)
 
 -- the pCPU, and the record at its holder's slot, are in their tables
-pcpu-in : tie.Need-element-copy-out-held Inv-loop μ-loop
+pcpu-in : tie.Need-element-copy-out-c Inv-loop μ-loop
 pcpu-in c = let a = c .before .before in omega (arith, counts (a .args .t1) (a .pre))
 
 slot-in : tie.Need-element-copy-out-v Inv-loop μ-loop

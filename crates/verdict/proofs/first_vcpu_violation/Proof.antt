@@ -10,7 +10,7 @@ use Rattle.system.specs.Reads.{vcpuAt, occupantAt}
 use Rattle.verdict.specs.declared.Violation.the-variants.{None}
 use Rattle.verdict.specs.Violations.{slotViolation, earliest}
 use Rattle.verdict.specs.Sound.{is-none}
-use Rattle.verdict.proofs.Scan.{step, stop, counts, index-below, slot-told, slot-absent}
+use Rattle.verdict.proofs.VerdictScan.{step, stop, counts, index-below, slot-told, slot-absent}
 use Rattle.verdict.proofs.first_vcpu_violation.Statement.{statement}
 use Rattle.verdict.proofs.first_vcpu_violation.Tie as tie
 
@@ -28,7 +28,7 @@ loop-holds c = (refl, zero-le)
 slot-in : tie.Need-element-copy-out-v Inv-loop μ-loop
 slot-in c = let a = c .before .before .before in omega (arith, counts (a .args .t1) (a .pre))
 
-index-in : tie.Need-element-copy-out-held Inv-loop μ-loop
+index-in : tie.Need-element-copy-out-c Inv-loop μ-loop
 unfolding vcpuAt
 index-in c =
     let l = c .before .before .before .before in

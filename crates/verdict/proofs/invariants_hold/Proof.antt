@@ -9,13 +9,14 @@ use native.Mathlib.Omega.{arith}
 use lib.Dec.{eqb}
 use borrow.Author.Needs.{needs}
 use borrow.Author.Tests.{not-true, not-false}
-use Rattle.system.specs.Shape.{fits}
-use Rattle.system.specs.Reads.{domains, vcpuAt, occupantAt, count}
+use Rattle.system.specs.Shape.{withinSizes}
+use Rattle.system.specs.Reads.{vcpuAt, occupantAt, count}
+use Rattle.system.specs.Slots.{domains}
 use Rattle.verdict.specs.declared.Violation.the-variants.{None}
 use Rattle.verdict.specs.Violations.{slotViolation, earliest, firstViolation, invariantsHold}
-use Rattle.verdict.specs.Loops.{runningAt}
+use Rattle.verdict.specs.Internal.{runningAt}
 use Rattle.verdict.specs.Sound.{is-none}
-use Rattle.verdict.proofs.Scan.{step, counts, index-below, slot-told}
+use Rattle.verdict.proofs.VerdictScan.{step, counts, index-below, slot-told}
 use Rattle.verdict.proofs.Tally.{counted, running-told, running-present, rests, broken, tally}
 use Rattle.verdict.proofs.invariants_hold.Statement.{statement}
 use Rattle.verdict.proofs.invariants_hold.Tie as tie
@@ -38,14 +39,14 @@ loop-holds c = (refl, refl, zero-le, zero-le)
 fit :
     (c : tie.Else1 Inv-loop μ-loop) →
     let s = c .before .before .args .t1 in
-    fits (s .«domain_count») (s .«vcpus_per_domain») (s .«pcpu_count») ≡ true
+    withinSizes (s .«domain_count») (s .«vcpus_per_domain») (s .«pcpu_count») ≡ true
 fit c = sym (c .before .within-sizes .ensures) ∙ not-false _ (c .if1 .left)
 
 -- the slot, and the index of the vCPU's pCPU, are in their tables
 slot-in : tie.Need-element-copy-out-v Inv-loop μ-loop
 slot-in c = let e = c .before .before in omega (arith, counts (e .before .before .args .t1) (fit e))
 
-index-in : tie.Need-element-copy-out-held Inv-loop μ-loop
+index-in : tie.Need-element-copy-out-c Inv-loop μ-loop
 unfolding vcpuAt
 index-in c =
     let l = c .before .before .before .before .before in
@@ -91,7 +92,7 @@ loop-again c =
     ⊎-elim
     (λ w.
     let index : tie.After-pcpu-index Inv-loop μ-loop = record { before = record { before = c .before; if2 = w .0 }; pcpu-index = w .1 } in
-    let r : tie.After-vcpu-violation Inv-loop μ-loop = record { before = record { before = index; held = w .2 }; vcpu-violation = w .3 } in
+    let r : tie.After-vcpu-violation Inv-loop μ-loop = record { before = record { before = index; c = w .2 }; vcpu-violation = w .3 } in
     let none = sym (told r) ∙ is-none _ (sym (w .4 .ensures) ∙ not-false _ (w .5 .left)) in
     let one = counted (runningAt s) i _ (l .loop .inv .1) (sym (runs (c .before)) ∙ w .0 .taken) in
     (rw add-one (step (slotViolation s) i (l .loop .inv .0) none), rw add-one (w .6 ∙ one), omega arith, omega arith))

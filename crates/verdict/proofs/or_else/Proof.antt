@@ -2,7 +2,7 @@
 use mathlib.Core.Path.{sym, _∙_}
 use borrow.Author.Needs.{needs}
 use Rattle.verdict.specs.Sound.{is-none}
-use Rattle.verdict.proofs.Scan.{or-keeps}
+use Rattle.verdict.proofs.VerdictScan.{or-keeps}
 use Rattle.verdict.proofs.or_else.Statement.{statement}
 use Rattle.verdict.proofs.or_else.Tie as tie
 

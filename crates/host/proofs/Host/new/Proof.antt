@@ -1,7 +1,7 @@
 -- `host::Host::new` meets its contract. Assumes nothing.
 use mathlib.Core.Path.{sym, _∙_}
 use borrow.Author.Needs.{needs}
-use Rattle.host.proofs.Built.{built-fitting, built-refused}
+use Rattle.host.proofs.NewHost.{built-fitting, built-refused}
 use Rattle.host.proofs.Host.new.Statement.{statement}
 use Rattle.host.proofs.Host.new.Tie as tie
 

@@ -6,8 +6,8 @@ use native.Mathlib.Omega.{arith}
 use lib.ListN.{length-map}
 use borrow.Author.Needs.{needs}
 use Rattle.policy.proofs.AccountLaws.{Tabled}
-use Rattle.policy.proofs.Stored.{zeros}
-use Rattle.policy.proofs.ClearTurns.{clearedTo, begun, turned, ended}
+use Rattle.policy.proofs.AccountReads.{zeros}
+use Rattle.policy.proofs.ClearLoop.{clearedTo, begun, turned, ended}
 use Rattle.policy.proofs.Scheduler.set_wake_boost.Statement.{statement}
 use Rattle.policy.proofs.Scheduler.set_wake_boost.Tie as tie
 

@@ -4,12 +4,12 @@ use mathlib.Core.Path.{ap}
 use native.Mathlib.Omega.{arith}
 use lib.ListN.{set, length-map}
 use borrow.Author.Needs.{needs}
-use Rattle.system.specs.Reads.{slot}
 use Rattle.policy.specs.declared.Account.{Account}
 use Rattle.policy.specs.Accounts.{raised, accountOf, withAccounts, putAccount, withWeight, setWeight}
 use Rattle.policy.proofs.AccountLaws.{Tabled}
-use Rattle.system.proofs.Held.{below, beyond}
-use Rattle.policy.proofs.Stored.{stored}
+use Rattle.system.specs.Slots.{slot}
+use Rattle.system.proofs.Laws.{below, beyond}
+use Rattle.policy.proofs.AccountReads.{stored}
 use Rattle.policy.proofs.Scheduler.set_weight.Statement.{statement}
 use Rattle.policy.proofs.Scheduler.set_weight.Tie as tie
 

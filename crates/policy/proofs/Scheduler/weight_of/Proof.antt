@@ -4,11 +4,11 @@ use mathlib.Core.Path.{_∙_, ap}
 use native.Mathlib.Omega.{arith}
 use lib.ListN.{length-map}
 use borrow.Author.Needs.{needs}
-use Rattle.system.specs.Reads.{slot}
 use Rattle.policy.specs.Accounts.{accountOf, usedWeight}
 use Rattle.policy.proofs.AccountLaws.{Tabled}
-use Rattle.system.proofs.Held.{below, beyond}
-use Rattle.policy.proofs.Stored.{stored}
+use Rattle.system.specs.Slots.{slot}
+use Rattle.system.proofs.Laws.{below, beyond}
+use Rattle.policy.proofs.AccountReads.{stored}
 use Rattle.policy.proofs.Scheduler.weight_of.Statement.{statement}
 use Rattle.policy.proofs.Scheduler.weight_of.Tie as tie
 

@@ -1,7 +1,7 @@
 -- `system::System::affinity_permits` meets its contract. Assumes nothing.
 use mathlib.Core.Path.{sym, _∙_}
 use borrow.Author.Needs.{needs}
-use Rattle.system.proofs.Held.{below, beyond}
+use Rattle.system.proofs.HeldCounts.{below, beyond}
 use Rattle.system.proofs.System.affinity_permits.Statement.{statement}
 use Rattle.system.proofs.System.affinity_permits.Tie as tie
 

@@ -1,7 +1,7 @@
 -- `system::System::occupant` meets its contract. Assumes nothing.
 use borrow.Author.Needs.{needs}
 use Rattle.system.specs.Reads.{occupantAt}
-use Rattle.system.proofs.Held.{below, beyond}
+use Rattle.system.proofs.HeldCounts.{below, beyond}
 use Rattle.system.proofs.System.occupant.Statement.{statement}
 use Rattle.system.proofs.System.occupant.Tie as tie
 

@@ -1,7 +1,7 @@
 -- `system::System::vcpu` meets its contract. Assumes nothing.
 use borrow.Author.Needs.{needs}
 use Rattle.system.specs.Reads.{vcpuAt, vcpuOf}
-use Rattle.system.proofs.Held.{below, beyond}
+use Rattle.system.proofs.HeldCounts.{below, beyond}
 use Rattle.system.proofs.System.vcpu.Statement.{statement}
 use Rattle.system.proofs.System.vcpu.Tie as tie
 

@@ -1,7 +1,7 @@
 -- `system::System::vcpu_count` meets its contract. Assumes nothing.
 use mathlib.Core.Path.{_∙_}
 use borrow.Author.Needs.{needs}
-use Rattle.system.proofs.Held.{below, beyond}
+use Rattle.system.proofs.HeldCounts.{below, beyond}
 use Rattle.system.proofs.System.vcpu_count.Statement.{statement}
 use Rattle.system.proofs.System.vcpu_count.Tie as tie
 

@@ -1,0 +1,21 @@
+-- `changes::woken` meets its contract. Assumes nothing.
+use borrow.Author.Needs.{needs}
+use Rattle.changes.proofs.woken.Statement.{statement}
+use Rattle.changes.proofs.woken.Tie as tie
+
+pub woken-spec : {M : Type 1} → statement M
+woken-spec =
+    tie.close
+    (tie.spec
+    (λ c. search needs)
+    (λ c κs. search needs)
+    (λ c. search needs)
+    (λ c κs. search needs)
+    (λ c. search needs)
+    (λ c κs. search needs)
+    (λ c. search needs)
+    (λ c κs. search needs)
+    (λ c. rw (c .before .enum-told .given .1) (c .wrong-state .ensures))
+    (λ c. rw (c .before .enum-told2 .given .1) (c .wrong-state2 .ensures))
+    (λ c. rw (c .before .enum-told3 .given .1) (c .wrong-state3 .ensures))
+    (λ c. rw (c .before .enum-told4 .given .1, c .with-state .ensures)))

@@ -1,0 +1,109 @@
+-- What a request does to a vCPU, by its record alone, and what the change leaves.
+use Prim.Native.Nat.{ℕ}
+use mathlib.Core.Bool.{Bool, true, cond}
+use lib.Dec.{ltb}
+use Rattle.masks.specs.Masks.{permits}
+use Rattle.system.specs.declared.RunState.{RunState}
+use Rattle.system.specs.declared.RunState.the-variants.{Offline, Runnable, Running, Blocked}
+use Rattle.system.specs.declared.VirtualCpu.{VirtualCpu}
+use Rattle.system.specs.declared.Occupant.{Occupant}
+use Rattle.system.specs.declared.Occupant.the-variants.{Idle}
+use Rattle.system.specs.declared.PhysicalCpu.{PhysicalCpu}
+use Rattle.system.specs.declared.Answer.{Answer}
+use Rattle.system.specs.declared.Answer.the-variants.{Done, WrongState, PcpuBusy, NotAffine}
+use Rattle.system.specs.Records.{withMask}
+use Rattle.system.specs.Reads.{isIdle}
+use Rattle.changes.specs.declared.Request.{Request}
+use Rattle.changes.specs.declared.Change.{Change}
+use Rattle.changes.specs.declared.Change.the-variants.{Refuse, Write, Enter, Leave}
+use Rattle.changes.specs.declared.After.{After}
+use Rattle.changes.specs.Records.{withState, dispatched, left}
+
+-- what is told of a vCPU found in a state that the call does not accept
+abbrev pub wrongState : RunState → Answer
+wrongState st = WrongState
+
+-- admit: of one Offline
+abbrev pub admitted : VirtualCpu → RunState → Change
+admitted v Offline = Write (withState v Runnable)
+admitted v Runnable = Refuse (wrongState Runnable)
+admitted v (Running p) = Refuse (wrongState (Running p))
+admitted v Blocked = Refuse (wrongState Blocked)
+
+-- run onto pCPU p: of one Runnable, that the mask admits
+abbrev pub ran : VirtualCpu → ℕ → ℕ → RunState → Change
+ran v p now Offline = Refuse (wrongState Offline)
+ran v p now Runnable = cond (permits (v .affinity) p) (Enter (dispatched v p now) p) (Refuse NotAffine)
+ran v p now (Running q) = Refuse (wrongState (Running q))
+ran v p now Blocked = Refuse (wrongState Blocked)
+
+-- preempt: of one Running
+abbrev pub preempted : VirtualCpu → ℕ → RunState → Change
+preempted v now Offline = Refuse (wrongState Offline)
+preempted v now Runnable = Refuse (wrongState Runnable)
+preempted v now (Running p) = Leave (left v Runnable now) p
+preempted v now Blocked = Refuse (wrongState Blocked)
+
+-- block: of one Runnable or Running
+abbrev pub blocked : VirtualCpu → ℕ → RunState → Change
+blocked v now Offline = Refuse (wrongState Offline)
+blocked v now Runnable = Write (withState v Blocked)
+blocked v now (Running p) = Leave (left v Blocked now) p
+blocked v now Blocked = Refuse (wrongState Blocked)
+
+-- wake: of one Blocked
+abbrev pub woken : VirtualCpu → RunState → Change
+woken v Offline = Refuse (wrongState Offline)
+woken v Runnable = Refuse (wrongState Runnable)
+woken v (Running p) = Refuse (wrongState (Running p))
+woken v Blocked = Write (withState v Runnable)
+
+-- a new mask must not exclude the pCPU that the vCPU is Running on
+abbrev pub masked : VirtualCpu → ℕ → RunState → Change
+masked v m Offline = Write (withMask v m)
+masked v m Runnable = Write (withMask v m)
+masked v m (Running p) = cond (permits m p) (Write (withMask v m)) (Refuse NotAffine)
+masked v m Blocked = Write (withMask v m)
+
+-- offline: of one not Offline; the mask is filled again, the run time kept
+abbrev pub offlined : VirtualCpu → ℕ → ℕ → RunState → Change
+offlined v full now Offline = Refuse (wrongState Offline)
+offlined v full now Runnable = Write (withMask (withState v Offline) full)
+offlined v full now (Running p) = Leave (withMask (left v Offline now) full) p
+offlined v full now Blocked = Write (withMask (withState v Offline) full)
+
+-- what a request does to a vCPU whose record is v, on a host whose full mask is given
+abbrev pub changed : Request → ℕ → VirtualCpu → Change
+changed Request.Admit full v = admitted v (v .state)
+changed (Request.Run p now) full v = ran v p now (v .state)
+changed (Request.Preempt now) full v = preempted v now (v .state)
+changed (Request.Block now) full v = blocked v now (v .state)
+changed Request.Wake full v = woken v (v .state)
+changed (Request.SetAffinity m) full v = masked v m (v .state)
+changed (Request.Offline now) full v = offlined v full now (v .state)
+
+-- the pCPU that a run asks for is one of n; the other requests ask for none
+abbrev pub reaches : Request → ℕ → Bool
+reaches Request.Admit n = true
+reaches (Request.Run p now) n = ltb p n
+reaches (Request.Preempt now) n = true
+reaches (Request.Block now) n = true
+reaches Request.Wake n = true
+reaches (Request.SetAffinity m) n = true
+reaches (Request.Offline now) n = true
+
+-- the pCPU that a change is about; 0 where there is none
+abbrev pub pcpuOf : Change → ℕ
+pcpuOf (Refuse a) = 0
+pcpuOf (Write v) = 0
+pcpuOf (Enter v p) = p
+pcpuOf (Leave v p) = p
+
+-- what a change of the vCPU who tells, and what it leaves at its slot, where v stood, and at its pCPU, where c stood
+abbrev pub stored : Change → Occupant → VirtualCpu → PhysicalCpu → After
+stored (Refuse a) who v c = record { answer = a; vcpu = v; pcpu = c }
+stored (Write w) who v c = record { answer = Done; vcpu = w; pcpu = c }
+stored (Enter w p) who v c =
+    cond (isIdle (c .occupant)) (record { answer = Done; vcpu = w; pcpu = record { occupant = who } })
+    (record { answer = PcpuBusy; vcpu = v; pcpu = c })
+stored (Leave w p) who v c = record { answer = Done; vcpu = w; pcpu = record { occupant = Idle } }

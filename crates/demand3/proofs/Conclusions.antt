@@ -1,0 +1,207 @@
+-- From what is kept along a list to what demand 3 says of it. Assumes nothing.
+use Prim.Native.Nat.{ℕ, _+_, _-_, _*_, _/_, _%_, _≤_, _<_}
+use mathlib.Core.Bool.{Bool, true, false, cond}
+use mathlib.Core.Path.{_≡_, refl, sym, _∙_, ap, ap₂, subst}
+use mathlib.Core.List.{List, [], _∷_, _++_}
+use native.Mathlib.Omega.{arith}
+use native.Mathlib.Nat.{mul-le-mul-right, le-trans}
+use native.Mathlib.Decide.{decLe, decLt}
+use lib.ListN.{length, getD, replicate, length-replicate, getD-replicate, List·getD-eq-default}
+use Rattle.masks.specs.Masks.{permits, fullMask}
+use Rattle.service.specs.Service.{value}
+use Rattle.system.specs.declared.RunState.{RunState}
+use Rattle.system.specs.declared.RunState.the-variants.{Offline, Runnable, Running, Blocked}
+use Rattle.system.specs.declared.VirtualCpu.{VirtualCpu}
+use Rattle.system.specs.declared.System.{System}
+use Rattle.system.specs.Records.{flight, inFlight}
+use Rattle.system.specs.Shape.{offlineVcpu, fresh}
+use Rattle.system.specs.Shape as shape
+use Rattle.system.specs.Reads.{vcpuAt, stateAt, runtimeAt}
+use Rattle.system.specs.Slots.{pcpus, slot, Present, slot-below}
+use Rattle.system.specs.States.{schedulable}
+use Rattle.scan.specs.Scan.{nobody}
+use Rattle.policy.specs.declared.Account.{Account}
+use Rattle.policy.specs.Accounts.{blankAccount, plain, covers, accountAt, accountOf, usedWeight, freshPolicy}
+use Rattle.policy.specs.Accounting.{accounted}
+use Rattle.policy.specs.Standing.{weightAt}
+use Rattle.policy.proofs.Laws.{covers-below}
+use Rattle.sched.proofs.Laws.{off-nr, fresh-tables, fresh-vcpu, fresh-sound}
+use Rattle.demand3.proofs.ExactRanking.{rawService}
+use Rattle.demand3.proofs.Lag.{Lag, raw-waiting}
+use Rattle.rules.specs.Settle.{movesOn}
+use Rattle.rules.proofs.Laws.{trace-few, trace-two, rest-quiet}
+use Rattle.host.specs.declared.Host.{Host}
+use Rattle.host.specs.declared.Call.{Call}
+use Rattle.host.specs.Step.{step, hostAfter, freshHost, Sliced}
+use Rattle.demand3.specs.Book.{Book, Shape, blankBook, holder, occupantBy, enter}
+use Rattle.demand3.specs.Agreement.{PresentIn, Says, Agrees}
+use Rattle.demand3.proofs.Holders.{shaped-present, agrees}
+use Rattle.demand3.specs.Lists.{bookAfter, openPart, bookService}
+use Rattle.demand3.proofs.EveryCall.{Kept, step-goes, advance-traced, advance-rests-here, accounted-slice, step-slice}
+use Rattle.demand3.proofs.BeforeFirstAdvance.{New}
+use Rattle.demand3.proofs.Pool.{Pooling}
+use Rattle.demand3.proofs.PoolLists.{Prepared}
+
+-- ---- a fresh host
+
+module _ (d v p e u q : ℕ) (hd : d ≤ 16) (hv : v ≤ 8) (hp : p ≤ 64) where
+  abbrev k : Shape
+  k = record { domains = d; vcpus = v; pcpus = p }
+
+  at-slot : {i : ℕ} → Present (fresh d v p) i → vcpuAt (fresh d v p) i ≡ shape.blank p
+  at-slot {i} h = fresh-vcpu d v p i (slot-below h)
+
+  pub fresh-kept : Kept k (blankBook k) (freshHost d v p e u q)
+  unfolding fresh freshPolicy
+  fresh-kept =
+      record {
+        in-step =
+            record {
+              tables = fresh-tables d v p;
+              sound = fresh-sound d v p hd hv hp;
+              shaped = record { domains = refl; vcpus = refl; pcpus = refl };
+              lines =
+                  record {
+                    says = λ i h.
+                        subst (Says (blankBook k i)) (sym (at-slot h))
+                        (record { state = refl; time = refl; mask = refl; clock = λ x y. absurd (off-nr x y) });
+                  };
+            };
+      }
+
+  policy-at : (i : ℕ) → accountOf (freshPolicy e u q) (i / 8) (i % 8) ≡ plain
+  unfolding accountOf accountAt freshPolicy
+  policy-at i = go (covers (freshPolicy e u q) (i / 8) (i % 8)) refl
+    where
+      go : (b : Bool) → covers (freshPolicy e u q) (i / 8) (i % 8) ≡ b → cond b (getD (replicate 128 plain) (slot (i / 8) (i % 8)) blankAccount) plain ≡ plain
+      go true c =
+          let x = covers-below (freshPolicy e u q) (i / 8) (i % 8) c .0 in
+          getD-replicate 128 (slot (i / 8) (i % 8)) plain blankAccount (omega arith)
+      go false c = refl
+
+  time-zero : (j : ℕ) → runtimeAt (fresh d v p) j ≡ 0
+  unfolding fresh vcpuAt
+  time-zero j = go (decLt j 128)
+    where
+      go : Dec (j < 128) → (getD (replicate 128 (shape.blank p)) j offlineVcpu) .runtime ≡ 0
+      go (yes l) = ap (λ (x : VirtualCpu). x .runtime) (getD-replicate 128 j (shape.blank p) offlineVcpu l)
+      go (no n) = ap (λ (x : VirtualCpu). x .runtime) (List·getD-eq-default (replicate 128 (shape.blank p)) offlineVcpu {n = j} (omega (arith, length-replicate 128 (shape.blank p))))
+
+  pub fresh-prepared : Prepared (freshHost d v p e u q)
+  unfolding fresh freshPolicy value
+  fresh-prepared =
+      record {
+        unrun =
+            record {
+              new = λ i h. subst (New (fullMask p)) (sym (at-slot h)) (record { rests = off-nr; none = refl; mask = refl });
+            };
+        plain =
+            record {
+              offsets = λ i. ap (λ (a : Account). value (a .offset)) (policy-at i);
+              weights = λ i. omega (arith, ap usedWeight (policy-at i));
+            };
+        tabled = record { accounts = length-replicate 128 plain };
+        words = λ j. omega (arith, time-zero j);
+        unseen = λ i. ap (λ (a : Account). a .«was_schedulable») (policy-at i);
+      }
+
+-- ---- at every point
+
+pub after-kept : {k : Shape} (cs : List Call) (h : Host) (b : Book) → Kept k b h → Kept k (bookAfter k h b cs) (hostAfter h cs)
+unfolding hostAfter bookAfter
+after-kept [] h b K = K
+after-kept (c ∷ cs) h b K = after-kept cs _ _ (step-goes c K .kept)
+
+pub book-append : (k : Shape) (xs ys : List Call) (h : Host) (b : Book) → bookAfter k h b (xs ++ ys) ≡ bookAfter k (hostAfter h xs) (bookAfter k h b xs) ys
+unfolding hostAfter bookAfter
+book-append k [] ys h b = refl
+book-append k (x ∷ xs) ys h b = book-append k xs ys _ _
+
+module _ {k : Shape} {b : Book} {h : Host} (K : Kept k b h) where
+  abbrev s : System
+  s = h .system
+
+  exists : {i : ℕ} → PresentIn k i → Present s i
+  exists e = shaped-present (K .in-step .shaped) (K .in-step .sound) e
+
+  pcpus-same : pcpus s ≡ k .pcpus
+  pcpus-same = let T = K .in-step in omega (arith, T .shaped .pcpus, T .sound .pcpus)
+
+  pub point-agrees : Agrees k b s
+  point-agrees = agrees (K .in-step .shaped) (K .in-step .sound) (K .in-step .lines)
+
+  sliced : (now : ℕ) → Sliced h → 1 ≤ (accounted (h .system) (h .scheduler) now) .quantum
+  sliced now q = omega (arith, accounted-slice (h .system) (h .scheduler) now)
+
+  pub few-moves : (now : ℕ) → Sliced h → length ((step h (Call.Advance now)) .moves) ≤ 2 * k .pcpus
+  few-moves now q =
+      let A = advance-traced now K in
+      omega (arith, trace-few (A .trace) (sliced now q) (K .in-step .tables) (K .in-step .sound), pcpus-same)
+
+  pub two-moves : (now p : ℕ) → Sliced h → p < k .pcpus → movesOn p ((step h (Call.Advance now)) .moves) ≤ 2
+  two-moves now p q l =
+      let A = advance-traced now K in
+      trace-two p (omega (arith, pcpus-same)) (A .trace) (sliced now q) (K .in-step .tables) (K .in-step .sound)
+
+  -- the book's service is the system's
+  service-same : (r i : ℕ) → Present s i → bookService b r i ≡ rawService s r i
+  unfolding inFlight
+  service-same r i h = let y = K .in-step .lines .says i h in ap₂ _+_ (y .time) (ap (openPart (b i) r) (y .state) ∙ open-same y ((vcpuAt s i) .state) refl)
+    where
+      open-same : Says (b i) (vcpuAt s i) → (st : RunState) → (vcpuAt s i) .state ≡ st → openPart (b i) r st ≡ flight (vcpuAt s i) r st
+      open-same y Offline e = refl
+      open-same y Runnable e = refl
+      open-same y (Running p) e = ap (λ (c : ℕ). r - c) (y .clock p e)
+      open-same y Blocked e = refl
+
+-- as an advance returns, nobody of the book waits beside a pCPU that nobody of the book holds
+pub quiet : {k : Shape} {b : Book} {h : Host} (K : Kept k b h) (now : ℕ) → Sliced h
+    → let c = (enter k b (Call.Advance now) ((step h (Call.Advance now)) .moves)) .book in
+    (i p : ℕ) → PresentIn k i → p < k .pcpus → (c i) .state ≡ Runnable → holder k c p ≡ nobody → permits ((c i) .mask) p ≡ true → ⊥
+quiet {k} {b} {h} K now q i p x l e f g =
+    let K′ = step-goes (Call.Advance now) K .kept in
+    let hi = exists K′ x in
+    let z = K′ .in-step .lines .says i hi in
+    rest-quiet _ _ now i p (advance-rests-here now K q)
+    (record {
+      present = hi;
+      ready = sym (z .state) ∙ e;
+      exists = omega (arith, pcpus-same K′);
+      free = point-agrees K′ .holders p l ∙ ap occupantBy f;
+      affine = sym (ap (λ (m : ℕ). permits m p) (z .mask)) ∙ g;
+    })
+    refl
+
+pub after-slice : {k : Shape} (cs : List Call) (h : Host) (b : Book) → Kept k b h → (hostAfter h cs) .scheduler .quantum ≡ h .scheduler .quantum
+unfolding hostAfter
+after-slice [] h b K = refl
+after-slice (c ∷ cs) h b K = after-slice cs _ _ (step-goes c K .kept) ∙ step-slice c K
+
+-- a reading before the clock only lowers who runs
+earlier : {w : ℕ → ℕ} {lim : ℕ} {s : System} {t : ℕ} (r : ℕ) → r ≤ t → Lag w lim s t → (i j : ℕ) → Present s i → Present s j
+    → schedulable (stateAt s i) ≡ true → stateAt s j ≡ Runnable → rawService s r i * w j ≤ rawService s r j * w i + lim * w j
+unfolding inFlight
+earlier {w} {lim} {s} {t} r l L i j hi hj h e =
+    rw (raw-waiting s r j e ∙ sym (raw-waiting s t j e)) (le-trans (mul-le-mul-right (w j) (lower ((vcpuAt s i) .state))) (L .lag i j hi hj h e))
+  where
+    lower : (st : RunState) → (vcpuAt s i) .runtime + flight (vcpuAt s i) r st ≤ (vcpuAt s i) .runtime + flight (vcpuAt s i) t st
+    lower Offline = omega arith
+    lower Runnable = omega arith
+    lower (Running p) = omega arith
+    lower Blocked = omega arith
+
+pub point-lag : {k : Shape} {b : Book} {h : Host} {g t : ℕ} (r : ℕ) → Kept k b h → Pooling g t (h .system) (h .scheduler) → r ≤ t + g → (i j : ℕ)
+    → PresentIn k i → PresentIn k j → schedulable ((b i) .state) ≡ true → (b j) .state ≡ Runnable
+    → let w = weightAt (h .scheduler) in bookService b r i * w j ≤ bookService b r j * w i + (h .scheduler .quantum + g - 1) * w j
+point-lag {b = b} {h = h} {g = g} {t = t} r K P up i j x y e f =
+    let hi = exists K x in
+    let hj = exists K y in
+    let L = K .in-step .lines in
+    let pi = sym (ap schedulable (L .says i hi .state)) ∙ e in
+    let wj = sym (L .says j hj .state) ∙ f in
+    rw (service-same K r i hi, service-same K r j hj) (go hi hj pi wj (decLe t r))
+  where
+    go : Present (h .system) i → Present (h .system) j → schedulable (stateAt (h .system) i) ≡ true → stateAt (h .system) j ≡ Runnable → Dec (t ≤ r)
+        → rawService (h .system) r i * weightAt (h .scheduler) j ≤ rawService (h .system) r j * weightAt (h .scheduler) i + (h .scheduler .quantum + g - 1) * weightAt (h .scheduler) j
+    go hi hj pi wj (yes l) = P .bounded r l up .lag i j hi hj pi wj
+    go hi hj pi wj (no n) = earlier r (omega arith) (P .bounded t (omega arith) (omega arith)) i j hi hj pi wj

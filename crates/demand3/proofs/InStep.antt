@@ -1,0 +1,131 @@
+-- What every call keeps of a host and its book, and that both tell the same. Assumes nothing.
+use Prim.Native.Nat.{ℕ, zero, suc, _≤_, _<_}
+use mathlib.Core.Bool.{Bool, true, false, cond, not, true≢false, false≢true}
+use mathlib.Core.Path.{_≡_, refl, sym, _∙_, ap, subst}
+use native.Mathlib.Nat.{min-eq-left}
+use native.Mathlib.Omega.{arith}
+use lib.Dec.{ltb}
+use borrow.Author.Tests.{ltb-true}
+use Rattle.masks.specs.Masks.{fullMask}
+use Rattle.system.specs.declared.Occupant.{Occupant}
+use Rattle.system.specs.declared.System.{System}
+use Rattle.system.specs.declared.Answer.{Answer}
+use Rattle.system.specs.declared.Answer.the-variants.{BadDomain, BadVcpu, BadPcpu, Unsound}
+use Rattle.system.specs.Answers.{told, SystemOutcome}
+use Rattle.system.specs.Reads.{vcpuAt, occupantAt, isIdle, vcpuCount}
+use Rattle.system.specs.Writes.{Tables, present-on}
+use Rattle.system.specs.Slots.{domains, vcpus, pcpus, slot, Present}
+use Rattle.verdict.specs.Sound.{Sound, sound-iff}
+use Rattle.verdict.specs.Violations.{invariantsHold}
+use Rattle.changes.specs.declared.Request.{Request}
+use Rattle.sched.specs.Steps.{refused, done, tested, made, requested, offlineFirst, offlineAll}
+use Rattle.sched.proofs.Laws.{made-legal, first-keeps}
+use Rattle.scan.specs.Scan.{Pick, nobody, at, some}
+use Rattle.changes.specs.Changes.{changed, reaches}
+use Rattle.demand3.specs.Book.{Book, Shape, holder, occupantBy, Note, Entry, unwritten, entered, identified, offlineNote, offlineLines}
+use Rattle.demand3.specs.Agreement.{Shaped}
+use Rattle.demand3.specs.Book.{unwritten}
+use Rattle.demand3.proofs.Holders.{Lines, holder-agrees}
+use Rattle.demand3.proofs.Notes.{Match, requestNote, request-match, Alike, legal-alike}
+
+-- a system in step with its book
+pub record InStep (k : Shape) (b : Book) (s : System) : Type 0 where
+  pub tables : Tables s
+  pub sound : Sound s
+  pub shaped : Shaped k s
+  pub lines : Lines b s
+
+-- ---- tests
+
+tested-alike : (x y : Bool) {r r′ : SystemOutcome} {e e′ : Entry} → x ≡ y → (x ≡ true → Alike r e) → Alike r′ e′ → Alike (cond x r r′) (cond y e e′)
+tested-alike true true f g h = g refl
+tested-alike true false f g h = absurd (true≢false f)
+tested-alike false true f g h = absurd (false≢true f)
+tested-alike false false f g h = h
+
+module _ {k : Shape} {b : Book} {s : System} (K : InStep k b s) where
+  told-alike : (a : Answer) (n : ℕ) → told a ≡ n → Alike (refused a s) (unwritten n b)
+  told-alike a n e = record { number = e; lines = K .lines }
+
+  many : (s .«domain_count» ≤ 16) × (s .«vcpus_per_domain» ≤ 8) × (s .«pcpu_count» ≤ 64)
+  many = (K .sound .domains, K .sound .vcpus, K .sound .pcpus)
+
+  same-domains : domains s ≡ k .domains
+  same-domains = min-eq-left (many .0) ∙ K .shaped .domains
+
+  same-vcpus : vcpus s ≡ k .vcpus
+  same-vcpus = min-eq-left (many .1) ∙ K .shaped .vcpus
+
+  same-pcpus : pcpus s ≡ k .pcpus
+  same-pcpus = min-eq-left (many .2) ∙ K .shaped .pcpus
+
+  -- a sound system passes the first test
+  unguarded : (r : SystemOutcome) → tested (invariantsHold s) Unsound s r ≡ r
+  unguarded r = rw (sound-iff s .1 (K .sound))
+
+  -- a pCPU that somebody runs on in the book is busy in the system
+  busy-alike : (p : ℕ) → p < k .pcpus → some (holder k b p) ≡ not (isIdle (occupantAt s p))
+  busy-alike p l = sym (ap (λ (o : Occupant). not (isIdle o)) (holder-agrees k b s p (K .shaped) (K .sound) (K .lines) l) ∙ occupied (holder k b p))
+    where
+      occupied : (r : Pick) → not (isIdle (occupantBy r)) ≡ some r
+      occupied nobody = refl
+      occupied (at i) = refl
+
+  -- what the book notes of a request of d/v
+  abbrev note : ℕ → ℕ → Request → Note
+  note d v q = requestNote (b (slot d v)) q (fullMask (k .pcpus)) (λ p. some (holder k b p))
+
+  made-alike : (d v : ℕ) (q : Request) → Present s (slot d v) → reaches q (pcpus s) ≡ true → Alike (made s (slot d v) q) (entered b (slot d v) (note d v q))
+  made-alike d v q h r =
+      legal-alike (K .tables) (made-legal s (slot d v) (K .sound) h q r) (K .lines)
+      (subst (λ (n : ℕ). Match s (changed q (fullMask n) (vcpuAt s (slot d v))) (note d v q)) (sym (K .shaped .pcpus))
+      (request-match s (K .lines .says (slot d v) h) q (fullMask (k .pcpus)) (pcpus s) (λ p. some (holder k b p)) r
+      (λ p l. busy-alike p (omega (arith, same-pcpus)))))
+
+  -- the book tests as the system does
+  pub requested-alike : (d v : ℕ) (q : Request)
+      → Alike (requested s d v q) (cond (reaches q (k .pcpus)) (identified k b d v (note d v q)) (unwritten 3 b))
+  unfolding requested
+  requested-alike d v q =
+      rw (unguarded _)
+      (tested-alike (reaches q (pcpus s)) (reaches q (k .pcpus)) (ap (reaches q) same-pcpus)
+      (λ r. tested-alike (ltb d (domains s)) (ltb d (k .domains)) (ap (ltb d) same-domains)
+      (λ x. tested-alike (ltb v (vcpus s)) (ltb v (k .vcpus)) (ap (ltb v) same-vcpus)
+      (λ y.
+      let m = ltb-true d (domains s) x in
+      let n = ltb-true v (vcpus s) y in
+      made-alike d v q (record { domain = omega arith; vcpu = omega arith }) r)
+      (told-alike BadVcpu 2 refl))
+      (told-alike BadDomain 1 refl))
+      (told-alike BadPcpu 3 refl))
+
+  -- one vCPU after another
+  first-alike : (d now n : ℕ) → d < domains s → n ≤ vcpus s → Alike (done (offlineFirst s d now n)) (offlineLines k b d now n)
+  unfolding offlineFirst offlineLines
+  first-alike d now zero a l = record { number = refl; lines = K .lines }
+  first-alike d now (suc n) a l =
+      let u = offlineFirst s d now n in
+      let c = (offlineLines k b d now n) .book in
+      let L = first-alike d now n a (omega arith) .lines in
+      let m = first-keeps s (K .sound) (K .tables) d now n a (omega arith) in
+      let h : Present u (slot d n) = present-on {i = slot d n} (m .shape) (record { domain = omega arith; vcpu = omega arith }) in
+      let r =
+      legal-alike (m .shape .tables (K .tables)) (made-legal u (slot d n) (m .sound) h (Request.Offline now) refl) L
+      (subst (λ (f : ℕ). Match u (changed (Request.Offline now) (fullMask f) (vcpuAt u (slot d n))) (offlineNote (c (slot d n)) (fullMask (k .pcpus)) now ((c (slot d n)) .state)))
+      (sym (m .shape .pcpus ∙ K .shaped .pcpus))
+      (request-match u (L .says (slot d n) h) (Request.Offline now) (fullMask (k .pcpus)) 0 (λ p. false) refl (λ p l. absurd (omega arith)))) in
+      record { number = refl; lines = r .lines }
+
+  pub offline-all-alike : (d now : ℕ) → Alike (offlineAll s d now) (cond (ltb d (k .domains)) (offlineLines k b d now (k .vcpus)) (unwritten 0 b))
+  unfolding offlineAll offlineFirst
+  offline-all-alike d now =
+      rw (unguarded (done (offlineFirst s d now (vcpuCount s d)))) (go (ltb d (domains s)) (ltb d (k .domains)) refl (ap (ltb d) same-domains))
+    where
+      go : (x y : Bool) → ltb d (domains s) ≡ x → x ≡ y
+          → Alike (done (offlineFirst s d now (cond x (vcpus s) 0))) (cond y (offlineLines k b d now (k .vcpus)) (unwritten 0 b))
+      go true true e f =
+          subst (λ (n : ℕ). Alike (done (offlineFirst s d now (vcpus s))) (offlineLines k b d now n)) same-vcpus
+          (first-alike d now (vcpus s) (ltb-true d (domains s) e) (omega arith))
+      go true false e f = absurd (true≢false f)
+      go false true e f = absurd (false≢true f)
+      go false false e f = record { number = refl; lines = K .lines }

@@ -1,0 +1,50 @@
+-- A book is made from another line by line: lines written in place, and moves. Assumes nothing.
+use Prim.Native.Nat.{ℕ, _+_, _-_, _^_, min}
+use mathlib.Core.Path.{_≡_}
+use mathlib.Core.List.{List, [], _∷_, _++_}
+use Rattle.system.specs.declared.RunState.the-variants.{Runnable, Running}
+use Rattle.sched.proofs.Laws.{NotRunning}
+use Rattle.demand3.specs.Dated.{onto, off, Dated, dated}
+use Rattle.demand3.specs.Book.{Line, Book, Shape, noted}
+use Rattle.demand3.specs.Agreement.{PresentIn}
+use Rattle.demand3.specs.Lists.{Clock, at}
+
+-- a line made anew that runs where the old one did, since the same clock
+pub record InPlace (old new : Line) : Type 0 where
+  pub time : new .time ≡ old .time
+  pub clock : new .clock ≡ old .clock
+  pub was : (p : ℕ) → new .state ≡ Running p → old .state ≡ Running p
+  pub still : (p : ℕ) → old .state ≡ Running p → new .state ≡ Running p
+
+-- the line of one that went onto pCPU p
+pub record GoesOn (old new : Line) (p now : ℕ) : Type 0 where
+  pub ready : old .state ≡ Runnable
+  pub on : new .state ≡ Running p
+  pub clock : new .clock ≡ now
+  pub time : new .time ≡ old .time
+
+-- the line of one that came off pCPU p
+pub record ComesOff (old new : Line) (p now : ℕ) : Type 0 where
+  pub on : old .state ≡ Running p
+  pub rests : NotRunning (new .state)
+  pub time : new .time ≡ min (old .time + (now - old .clock)) (2 ^ 64 - 1)
+
+-- nobody is Running on pCPU p
+abbrev pub Vacant : Shape → Book → ℕ → Type 0
+Vacant k b p = (i : ℕ) → PresentIn k i → (b i) .state ≡ Running p → ⊥
+
+-- from a book to another, with the moves made on the way, all at the clock t
+pub data Made (k : Shape) (t : Clock) : Book → List Dated → Book → Type 0 where
+  done : {b : Book} → Made k t b [] b
+  writes : {b b′ : Book} {i : ℕ} {l : Line} {ms : List Dated} → PresentIn k i → InPlace (b i) l → Made k t (noted b i l) ms b′
+      → Made k t b ms b′
+  goes-on : {b b′ : Book} {i p now : ℕ} {l : Line} {ms : List Dated} → t ≡ at now → PresentIn k i → Vacant k b p → GoesOn (b i) l p now
+      → Made k t (noted b i l) ms b′ → Made k t b (dated onto i p now ∷ ms) b′
+  comes-off : {b b′ : Book} {i p now : ℕ} {l : Line} {ms : List Dated} → t ≡ at now → PresentIn k i → ComesOff (b i) l p now
+      → Made k t (noted b i l) ms b′ → Made k t b (dated off i p now ∷ ms) b′
+
+pub made-then : {k : Shape} {t : Clock} {b c d : Book} {ms ns : List Dated} → Made k t b ms c → Made k t c ns d → Made k t b (ms ++ ns) d
+made-then done r = r
+made-then (writes x y m) r = writes x y (made-then m r)
+made-then (goes-on e x v y m) r = goes-on e x v y (made-then m r)
+made-then (comes-off e x y m) r = comes-off e x y (made-then m r)

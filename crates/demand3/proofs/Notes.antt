@@ -1,0 +1,169 @@
+-- A change of the system and a note of the book match: both refuse with one number, or both write what says the same.
+-- Assumes nothing.
+use Prim.Native.Nat.{ℕ, _-_, _<_}
+use mathlib.Core.Bool.{Bool, true, false, cond, not}
+use mathlib.Core.Path.{_≡_, refl, sym, _∙_, ap, subst, subst₂}
+use mathlib.Core.Logic.{_≢_}
+use native.Mathlib.Omega.{arith}
+use native.Mathlib.Decide.{ℕ-discrete}
+use borrow.Author.Tests.{eq-eqb, ne-eqb, ltb-true}
+use Rattle.masks.specs.Masks.{permits}
+use Rattle.system.specs.declared.RunState.{RunState}
+use Rattle.system.specs.declared.RunState.the-variants.{Offline, Runnable, Running, Blocked}
+use Rattle.system.specs.declared.VirtualCpu.{VirtualCpu}
+use Rattle.system.specs.declared.Occupant.{Occupant}
+use Rattle.system.specs.declared.System.{System}
+use Rattle.system.specs.declared.Answer.{Answer}
+use Rattle.system.specs.declared.Answer.the-variants.{NotAffine}
+use Rattle.system.specs.Answers.{told, SystemOutcome}
+use Rattle.system.specs.Records.{withMask}
+use Rattle.system.specs.Reads.{vcpuAt, occupantAt, isIdle}
+use Rattle.system.specs.Writes.{Tables, Wrote, present-back}
+use Rattle.system.specs.Slots.{Present}
+use Rattle.changes.specs.declared.Request.{Request}
+use Rattle.changes.specs.declared.Change.{Change}
+use Rattle.changes.specs.declared.Change.the-variants.{Refuse, Write, Enter, Leave}
+use Rattle.changes.specs.Records.{withState, dispatched, left}
+use Rattle.changes.specs.Changes.{wrongState, admitted, ran, preempted, blocked, woken, masked, offlined, changed, reaches}
+use Rattle.sched.proofs.Laws.{NotRunning, Legal, stays, keeps, busy, goes-on, comes-off, off-nr, ready-nr, blocked-nr}
+use Rattle.demand3.specs.Dated.{onto, off}
+use Rattle.demand3.specs.Book.{Line, Book, noted, marked, remasked, opened, closed, Note, refuse, write, move, Entry, entered, admitNote, runNote, preemptNote, blockNote, wakeNote, offlineNote, maskNote}
+use Rattle.demand3.specs.Agreement.{Says}
+use Rattle.demand3.proofs.Holders.{Lines}
+
+pub data Match (s : System) : Change → Note → Type 0 where
+  both-refuse : (a : Answer) → Match s (Refuse a) (refuse (told a))
+  both-write : {v : VirtualCpu} {l : Line} → Says l v → Match s (Write v) (write l)
+  both-enter : {v : VirtualCpu} {p : ℕ} {l : Line} (now : ℕ) (taken : Bool) → taken ≡ not (isIdle (occupantAt s p)) → Says l v
+      → Match s (Enter v p) (cond taken (refuse 5) (move onto p now l))
+  both-leave : {v : VirtualCpu} {p now : ℕ} {l : Line} → Says l v → Match s (Leave v p) (move off p now l)
+
+-- ---- lines and records made anew say the same
+
+module _ {l : Line} {v : VirtualCpu} (y : Says l v) where
+  in-state : (st : RunState) → NotRunning st → Says (marked l st) (withState v st)
+  in-state st n = record { state = refl; time = y .time; mask = y .mask; clock = λ p e. absurd (n p e) }
+
+  new-mask : (m : ℕ) → Says (remasked l m) (withMask v m)
+  new-mask m = record { state = y .state; time = y .time; mask = refl; clock = y .clock }
+
+  pub on-pcpu : (p now : ℕ) → Says (opened l p now) (dispatched v p now)
+  unfolding dispatched
+  on-pcpu p now = record { state = refl; time = y .time; mask = y .mask; clock = λ q e. refl }
+
+  pub off-pcpu : (p now : ℕ) (st : RunState) → v .state ≡ Running p → NotRunning st → Says (closed l st now) (left v st now)
+  unfolding left
+  off-pcpu p now st e n =
+      let c = y .clock p e in
+      let t = y .time in
+      record { state = refl; time = omega arith; mask = y .mask; clock = λ q x. absurd (n q x) }
+
+-- ---- each request
+
+-- what the book notes of a request, where taken says on which pCPUs somebody runs
+abbrev pub requestNote : Line → Request → ℕ → (ℕ → Bool) → Note
+requestNote l Request.Admit full taken = admitNote l (l .state)
+requestNote l (Request.Run p now) full taken = runNote l p (taken p) now (l .state)
+requestNote l (Request.Preempt now) full taken = preemptNote l now (l .state)
+requestNote l (Request.Block now) full taken = blockNote l now (l .state)
+requestNote l Request.Wake full taken = wakeNote l (l .state)
+requestNote l (Request.SetAffinity m) full taken = maskNote l m (l .state)
+requestNote l (Request.Offline now) full taken = offlineNote l full now (l .state)
+
+module _ (s : System) {l : Line} {v : VirtualCpu} (y : Says l v) where
+  admit-match : (st : RunState) → v .state ≡ st → Match s (admitted v st) (admitNote l st)
+  admit-match Offline e = both-write (in-state y Runnable ready-nr)
+  admit-match Runnable e = both-refuse (wrongState Runnable)
+  admit-match (Running p) e = both-refuse (wrongState (Running p))
+  admit-match Blocked e = both-refuse (wrongState Blocked)
+
+  preempt-match : (now : ℕ) (st : RunState) → v .state ≡ st → Match s (preempted v now st) (preemptNote l now st)
+  preempt-match now Offline e = both-refuse (wrongState Offline)
+  preempt-match now Runnable e = both-refuse (wrongState Runnable)
+  preempt-match now (Running p) e = both-leave (off-pcpu y p now Runnable e ready-nr)
+  preempt-match now Blocked e = both-refuse (wrongState Blocked)
+
+  block-match : (now : ℕ) (st : RunState) → v .state ≡ st → Match s (blocked v now st) (blockNote l now st)
+  block-match now Offline e = both-refuse (wrongState Offline)
+  block-match now Runnable e = both-write (in-state y Blocked blocked-nr)
+  block-match now (Running p) e = both-leave (off-pcpu y p now Blocked e blocked-nr)
+  block-match now Blocked e = both-refuse (wrongState Blocked)
+
+  wake-match : (st : RunState) → v .state ≡ st → Match s (woken v st) (wakeNote l st)
+  wake-match Offline e = both-refuse (wrongState Offline)
+  wake-match Runnable e = both-refuse (wrongState Runnable)
+  wake-match (Running p) e = both-refuse (wrongState (Running p))
+  wake-match Blocked e = both-write (in-state y Runnable ready-nr)
+
+  mask-match : (m : ℕ) (st : RunState) → v .state ≡ st → Match s (masked v m st) (maskNote l m st)
+  mask-match m Offline e = both-write (new-mask y m)
+  mask-match m Runnable e = both-write (new-mask y m)
+  mask-match m (Running p) e = go (permits m p)
+    where
+      go : (b : Bool) → Match s (cond b (Write (withMask v m)) (Refuse NotAffine)) (cond b (write (remasked l m)) (refuse 6))
+      go true = both-write (new-mask y m)
+      go false = both-refuse NotAffine
+  mask-match m Blocked e = both-write (new-mask y m)
+
+  offline-match : (full now : ℕ) (st : RunState) → v .state ≡ st → Match s (offlined v full now st) (offlineNote l full now st)
+  offline-match full now Offline e = both-refuse (wrongState Offline)
+  offline-match full now Runnable e = both-write (new-mask (in-state y Offline off-nr) full)
+  offline-match full now (Running p) e = both-leave (new-mask (off-pcpu y p now Offline e off-nr) full)
+  offline-match full now Blocked e = both-write (new-mask (in-state y Offline off-nr) full)
+
+  run-match : (p now : ℕ) (taken : Bool) → taken ≡ not (isIdle (occupantAt s p)) → (st : RunState) → Match s (ran v p now st) (runNote l p taken now st)
+  run-match p now taken f Offline = both-refuse (wrongState Offline)
+  run-match p now taken f Runnable =
+      subst (λ (m : ℕ). Match s (ran v p now Runnable) (cond (permits m p) (cond taken (refuse 5) (move onto p now (opened l p now))) (refuse 6))) (sym (y .mask))
+      (go (permits (v .affinity) p))
+    where
+      go : (b : Bool)
+          → Match s (cond b (Enter (dispatched v p now) p) (Refuse NotAffine)) (cond b (cond taken (refuse 5) (move onto p now (opened l p now))) (refuse 6))
+      go true = both-enter now taken f (on-pcpu y p now)
+      go false = both-refuse NotAffine
+  run-match p now taken f (Running q) = both-refuse (wrongState (Running q))
+  run-match p now taken f Blocked = both-refuse (wrongState Blocked)
+
+  -- the book goes by its own state, which is the system's
+  by-state : {c : Change} (note : RunState → Note) → Match s c (note (v .state)) → Match s c (note (l .state))
+  by-state {c} note m = subst (λ (st : RunState). Match s c (note st)) (sym (y .state)) m
+
+  pub request-match : (q : Request) (full n : ℕ) (taken : ℕ → Bool) → reaches q n ≡ true
+      → ((p : ℕ) → p < n → taken p ≡ not (isIdle (occupantAt s p))) → Match s (changed q full v) (requestNote l q full taken)
+  request-match Request.Admit full n taken r f = by-state (admitNote l) (admit-match (v .state) refl)
+  request-match (Request.Run p now) full n taken r f = by-state (runNote l p (taken p) now) (run-match p now (taken p) (f p (ltb-true p n r)) (v .state))
+  request-match (Request.Preempt now) full n taken r f = by-state (preemptNote l now) (preempt-match now (v .state) refl)
+  request-match (Request.Block now) full n taken r f = by-state (blockNote l now) (block-match now (v .state) refl)
+  request-match Request.Wake full n taken r f = by-state (wakeNote l) (wake-match (v .state) refl)
+  request-match (Request.SetAffinity m) full n taken r f = by-state (maskNote l m) (mask-match m (v .state) refl)
+  request-match (Request.Offline now) full n taken r f = by-state (offlineNote l full now) (offline-match full now (v .state) refl)
+
+-- ---- what matches is told the same and leaves what agrees
+
+pub noted-here : (b : Book) (i : ℕ) (l : Line) → noted b i l i ≡ l
+noted-here b i l = rw (eq-eqb i i refl)
+
+pub noted-there : (b : Book) (i : ℕ) (l : Line) (j : ℕ) → j ≢ i → noted b i l j ≡ b j
+noted-there b i l j n = rw (ne-eqb j i n)
+
+pub wrote-lines : {b : Book} {s s′ : System} {i p : ℕ} {v : VirtualCpu} {o : Occupant} {l : Line} → Lines b s → Wrote s s′ i v p o → Says l v
+    → Lines (noted b i l) s′
+wrote-lines {b} {s} {s′} {i} {p} {v} {o} {l} L k y = record { says = λ j h. go j h (ℕ-discrete j i) }
+  where
+    go : (j : ℕ) → Present s′ j → Dec (j ≡ i) → Says (noted b i l j) (vcpuAt s′ j)
+    go j h (yes e) = rw e (subst₂ Says (sym (noted-here b i l)) (sym (k .here)) y)
+    go j h (no n) = subst₂ Says (sym (noted-there b i l j n)) (sym (k .there j n)) (L .says j (present-back (k .shape) h))
+
+-- the same number is told, and the lines still agree
+pub record Alike (r : SystemOutcome) (e : Entry) : Type 0 where
+  pub number : r .number ≡ e .number
+  pub lines : Lines (e .book) (r .system)
+
+pub legal-alike : {s : System} {b : Book} {i : ℕ} {c : Change} {r : SystemOutcome} {n : Note} → Tables s → Legal s i c r → Lines b s → Match s c n
+    → Alike r (entered b i n)
+legal-alike t (stays a) L (both-refuse _) = record { number = refl; lines = L }
+legal-alike t (keeps k w) L (both-write y) = record { number = refl; lines = wrote-lines L (w t) y }
+legal-alike t (busy l e) L (both-enter now taken f y) = rw (f ∙ ap not e) (record { number = refl; lines = L })
+legal-alike t (goes-on c o w) L (both-enter now taken f y) =
+    rw (f ∙ ap (λ (x : Occupant). not (isIdle x)) (c .free)) (record { number = refl; lines = wrote-lines L (w t) y })
+legal-alike t (comes-off now on k w) L (both-leave y) = record { number = refl; lines = wrote-lines L (w t) y }

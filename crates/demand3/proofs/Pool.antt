@@ -1,0 +1,151 @@
+-- What each call of a pool list keeps: the lag is bounded up to g after the latest advance. Assumes nothing.
+use Prim.Native.Nat.{ℕ, _+_, _-_, _/_, _%_, _^_, _≤_, _<_}
+use mathlib.Core.Bool.{Bool, true, false, false≢true}
+use mathlib.Core.Path.{_≡_, refl, sym, _∙_, ap, subst}
+use mathlib.Core.Logic.{_⊎_, inl, inr}
+use mathlib.Core.List.{List}
+use native.Mathlib.Omega.{arith}
+use Rattle.service.specs.Service.{value}
+use Rattle.system.specs.declared.VirtualCpu.{VirtualCpu}
+use Rattle.system.specs.declared.System.{System}
+use Rattle.system.specs.Writes.{Tables, present-back}
+use Rattle.system.specs.Slots.{Present, slots, present, is-present, present-is}
+use Rattle.system.specs.Reads.{runtimeAt, pooled}
+use Rattle.system.specs.States.{schedulable}
+use Rattle.verdict.specs.Sound.{Sound}
+use Rattle.sched.specs.Invariants.{Keeps}
+use Rattle.moves.specs.declared.Choice.{Choice}
+use Rattle.moves.specs.declared.Choice.the-variants.{Rest}
+use Rattle.scan.specs.Scan.{Pick, nobody, at}
+use Rattle.policy.specs.declared.Account.{Account}
+use Rattle.policy.specs.declared.Scheduler.{Scheduler}
+use Rattle.policy.specs.Accounts.{covers, accountOf, usedWeight, wasSchedulable, setWakeBoost, unboosted}
+use Rattle.policy.specs.Standing.{weightAt}
+use Rattle.rules.specs.Choices.{choice}
+use Rattle.rules.proofs.Laws.{Trace, trace-keeps}
+use Rattle.policy.specs.Accounting.{floor, accounted}
+use Rattle.policy.proofs.Laws.{Tabled, renew-same, accounted-weight, accounted-snapshot, accounted-offset, floor-stayed, cleared, cleared-tabled}
+use Rattle.demand3.proofs.Lag.{Lag}
+use Rattle.demand3.proofs.LagMoves.{Plain, trace-lag, rest-lag, trace-pooled}
+use Rattle.advance.specs.ServiceRule.{ruleOf}
+use Rattle.demand3.proofs.Departures.{Shrinks, shrinks-lag}
+
+-- run times are words
+abbrev pub Words : System → Type 0
+Words s = (j : ℕ) → runtimeAt s j < 2 ^ 64
+
+-- Q + G − 1
+abbrev pub slack : Scheduler → ℕ → ℕ
+slack π g = π .quantum + g - 1
+
+-- after an advance at clock t
+pub record Pooling (g t : ℕ) (s : System) (π : Scheduler) : Type 0 where
+  pub bounded : (r : ℕ) → t ≤ r → r ≤ t + g → Lag (weightAt π) (slack π g) s r
+  pub plain : Plain π
+  pub tabled : Tabled π
+  pub words : Words s
+  -- nobody in the pool is new to it
+  pub seen : (i : ℕ) → Present s i → pooled s i ≡ true → covers π (i / 8) (i % 8) ≡ true → wasSchedulable π (i / 8) (i % 8) ≡ true
+
+-- the lag depends on the weights alone
+same-weights : {w w′ : ℕ → ℕ} {lim now : ℕ} {s : System} → ((i : ℕ) → w i ≡ w′ i) → Lag w lim s now → Lag w′ lim s now
+same-weights {w} {w′} {lim} {now} {s} e L = subst (λ (u : ℕ → ℕ). Lag u lim s now) (λ x i. e i x) L
+
+-- ---- an advance
+
+module _ (s : System) (π : Scheduler) (now g : ℕ) (fit : now < 2 ^ 64) (slice : 1 ≤ π .quantum) (tb : Tables s) (S : Sound s) (words : Words s)
+    (L : Tabled π) where
+  abbrev ρ : Scheduler
+  ρ = accounted s π now
+
+  same-slice : ρ .quantum ≡ π .quantum
+  unfolding accounted
+  same-slice = renew-same s π now (slots s) .quantum
+
+  same-shape : (d v : ℕ) → covers ρ d v ≡ covers π d v
+  unfolding accounted
+  same-shape d v = let e = renew-same s π now (slots s) in rw (e .domains, e .vcpus)
+
+  tabled′ : Tabled ρ
+  unfolding accounted
+  tabled′ = record { accounts = renew-same s π now (slots s) .tabled ∙ L .accounts }
+
+  -- an advance that sets no offset, on a system where the lag is bounded at its clock
+  settles-pooling : {t : System} {cs : List Choice} → Plain ρ → Lag (weightAt π) (slack π g) s now → Trace (ruleOf ρ) now s cs t → choice t (ruleOf ρ) now ≡ Rest → Pooling g now t ρ
+  settles-pooling {t} P lag tr e =
+      let k = trace-keeps tr tb S in
+      let here = same-weights (λ i. sym (accounted-weight s π L now i)) (subst (λ (q : ℕ). Lag (weightAt π) (q + g - 1) s now) (sym same-slice) lag) in
+      let there = trace-lag ρ P (slack ρ g) tr fit words tb S here in
+      record {
+        bounded = λ r lo up. rest-lag ρ P (slack ρ g) t now g r fit (k .times words .word) (k .sound) there e (omega (arith, same-slice)) (omega (arith, same-slice)) lo up;
+        plain = P;
+        tabled = tabled′;
+        words = k .times words .word;
+        seen = λ i h p c.
+            let q = present-is (present-back (k .shape) h) in
+            accounted-snapshot s π L now i (q .0) (q .1) (sym (same-shape (i / 8) (i % 8)) ∙ c) ∙ (sym (trace-pooled tr tb S i) ∙ p);
+      }
+
+  unlifted : Plain π
+      → ((i : ℕ) → (floor s π now ≡ nobody)
+      ⊎ (i < slots s → present s i ≡ true → covers π (i / 8) (i % 8) ≡ true → pooled s i ≡ true → wasSchedulable π (i / 8) (i % 8) ≡ true))
+      → Plain ρ
+  unlifted P f =
+      record {
+        offsets = λ i. accounted-offset s π L now i (f i) ∙ P .offsets i;
+        weights = λ i. omega (arith, accounted-weight s π L now i, P .weights i);
+      }
+
+-- the first advance finds no floor, as nobody was in the pool before
+no-floor : (s : System) (π : Scheduler) (now : ℕ) → ((i : ℕ) → wasSchedulable π (i / 8) (i % 8) ≡ false) → floor s π now ≡ nobody
+no-floor s π now u = go (floor s π now) refl
+  where
+    go : (r : Pick) → floor s π now ≡ r → r ≡ nobody
+    go nobody e = refl
+    go (at f) e = absurd (false≢true (sym (u f) ∙ floor-stayed s π now f e .1))
+
+pub first-advance : {s t : System} {π : Scheduler} {cs : List Choice} (now g : ℕ) → now < 2 ^ 64 → 1 ≤ π .quantum → Tables s → Sound s → Words s
+    → Tabled π → Plain π → ((i : ℕ) → wasSchedulable π (i / 8) (i % 8) ≡ false) → Lag (weightAt π) (slack π g) s now
+    → Trace (ruleOf (accounted s π now)) now s cs t → choice t (ruleOf (accounted s π now)) now ≡ Rest → Pooling g now t (accounted s π now)
+first-advance {s} {t} {π} now g fit q tb S w L P u lag tr e =
+    settles-pooling s π now g fit q tb S w L (unlifted s π now g fit q tb S w L P (λ i. inl (no-floor s π now u))) lag tr e
+
+pub next-advance : {s t : System} {π : Scheduler} {cs : List Choice} (t₀ now g : ℕ) → now < 2 ^ 64 → 1 ≤ π .quantum → Tables s → Sound s
+    → Pooling g t₀ s π → t₀ ≤ now → now ≤ t₀ + g → Trace (ruleOf (accounted s π now)) now s cs t → choice t (ruleOf (accounted s π now)) now ≡ Rest
+    → Pooling g now t (accounted s π now)
+next-advance {s} {t} {π} t₀ now g fit q tb S p lo up tr e =
+    settles-pooling s π now g fit q tb S (p .words) (p .tabled)
+    (unlifted s π now g fit q tb S (p .words) (p .tabled) (p .plain)
+    (λ i. inr (λ l x c h. p .seen i (is-present s i l x) h c)))
+    (p .bounded now lo up) tr e
+
+-- ---- the other calls
+
+pub departure : {s s′ : System} {π : Scheduler} {g t : ℕ} → Shrinks s s′ → Keeps s s′ → Pooling g t s π → Pooling g t s′ π
+departure {s} {s′} {π} x k p =
+    record {
+      bounded = λ r lo up. shrinks-lag x (p .bounded r lo up);
+      plain = p .plain;
+      tabled = p .tabled;
+      words = k .times (p .words) .word;
+      seen = λ i h q c.
+          let e = x .same i h q in
+          p .seen i (present-back (x .shape) h) (sym (ap (λ (v : VirtualCpu). schedulable (v .state)) e) ∙ q) c;
+    }
+
+pub boosted : {s : System} {π : Scheduler} {g t : ℕ} (on : Bool) → Pooling g t s π → Pooling g t s (setWakeBoost π on)
+unfolding setWakeBoost value
+boosted {s} {π} on p =
+    record {
+      bounded = λ r lo up. same-weights (λ i. sym (weight i)) (p .bounded r lo up);
+      plain = record { offsets = λ i. ap (λ (a : Account). value (a .offset)) (look i); weights = λ i. omega (arith, weight i, p .plain .weights i) };
+      tabled = cleared-tabled π (p .tabled) on;
+      words = p .words;
+      seen = λ i h q c. ap (λ (a : Account). a .«was_schedulable») (look i) ∙ p .seen i h q c;
+    }
+  where
+    look : (i : ℕ) → accountOf (setWakeBoost π on) (i / 8) (i % 8) ≡ unboosted (accountOf π (i / 8) (i % 8))
+    look i = cleared π on (i / 8) (i % 8)
+
+    weight : (i : ℕ) → weightAt (setWakeBoost π on) i ≡ weightAt π i
+    weight i = ap usedWeight (look i)

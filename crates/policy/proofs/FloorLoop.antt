@@ -1,0 +1,80 @@
+-- A turn of `floor` is a step of its scan. Assumes nothing.
+use Prim.Native.Nat.{ℕ, suc, _/_, _%_}
+use mathlib.Core.Bool.{Bool, true, false, cond, _&&_}
+use mathlib.Core.Path.{_≡_, refl, sym, _∙_, ap, subst}
+use mathlib.Core.List.{List}
+use Rattle.service.specs.Service.{value, held, moreDeserving}
+use Rattle.service.specs.Laws.{value-held}
+use Rattle.system.specs.declared.System.{System}
+use Rattle.system.specs.Reads.{vcpuAt, pooled}
+use Rattle.system.specs.Slots.{present}
+use Rattle.scan.specs.Scan.{Pick, at, against, scan}
+use Rattle.policy.specs.declared.Account.{Account}
+use Rattle.policy.specs.declared.Standing.{Standing}
+use Rattle.policy.specs.declared.Scheduler.{Scheduler}
+use Rattle.policy.specs.Accounts.{accountOf, wasSchedulable}
+use Rattle.policy.specs.Standing.{weightAt, serviceOf, serviceBy, serviceAt, deserves}
+use Rattle.policy.specs.Internal.{undercuts, leader, Leads, none, one}
+
+-- the floor of the first n slots
+abbrev pub floorOf : System → Scheduler → ℕ → ℕ → Pick
+floorOf s π now n = scan (λ i. present s i && (pooled s i && wasSchedulable π (i / 8) (i % 8))) (deserves s π now) n
+
+module _ (s : System) (π : Scheduler) (now i : ℕ) (best : Standing) where
+  abbrev account : Account
+  account = accountOf π (i / 8) (i % 8)
+
+  abbrev service : List ℕ
+  service = held (serviceOf (vcpuAt s i) account now)
+
+  abbrev next : Standing
+  next = record { found = true; service = service; weight = weightAt π i }
+
+  -- the service that the code holds is the definition's
+  worth : value service ≡ serviceAt s π now i
+  unfolding serviceBy
+  worth = value-held _
+
+  -- i takes the lead
+  takes : {r : Pick} → r ≡ at i → Leads s π now r next
+  takes e = one i e refl worth refl
+
+  -- one that passes, against the leader so far
+  compared : (r : Pick) → Leads s π now r best
+      → Leads s π now (against (deserves s π now) i r) (cond (undercuts best (value service) (weightAt π i)) next best)
+  unfolding deserves
+  compared r l = go l
+    where
+      test : Bool
+      test = moreDeserving (value service) (weightAt π i) (value (best .service)) (best .weight)
+
+      after : Bool → Type 0
+      after t = Leads s π now (against (deserves s π now) i r) (cond t next best)
+
+      by-test : (f : ℕ) → best .found ≡ true → value (best .service) ≡ serviceAt s π now f → best .weight ≡ weightAt π f
+          → (u : Bool) → against (deserves s π now) i r ≡ cond u (at i) (at f) → after u
+      by-test f e v w true p = takes p
+      by-test f e v w false p = one f p e v w
+
+      go : Leads s π now r best → after (cond (best .found) test true)
+      go (none e h) = subst (λ (t : Bool). after (cond t test true)) (sym e) (takes (ap (against (deserves s π now) i) h))
+      go (one f h e v w) =
+          let d : deserves s π now i f ≡ test = cc worth in
+          let p = ap (against (deserves s π now) i) h ∙ ap (λ (x : Bool). cond x (at i) (at f)) d in
+          subst (λ (t : Bool). after (cond t test true)) (sym e) (by-test f e v w test p)
+
+  -- one that is present is compared
+  pub turned : present s i ≡ true → Leads s π now (floorOf s π now i) best
+      → Leads s π now (floorOf s π now (suc i)) (leader best (vcpuAt s i) account now)
+  unfolding scan
+  turned p l = rw p (go (pooled s i && wasSchedulable π (i / 8) (i % 8)))
+    where
+      go : (t : Bool) → Leads s π now (cond t (against (deserves s π now) i (floorOf s π now i)) (floorOf s π now i))
+          (cond t (cond (undercuts best (value service) (weightAt π i)) next best) best)
+      go true = compared (floorOf s π now i) l
+      go false = l
+
+  -- one that is not is passed over
+  pub absent : present s i ≡ false → Leads s π now (floorOf s π now i) best → Leads s π now (floorOf s π now (suc i)) best
+  unfolding scan
+  absent p l = rw p l

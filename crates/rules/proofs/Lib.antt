@@ -1,0 +1,5 @@
+pub mod Laws
+mod OneMove
+mod Potential
+mod Sums
+mod Traces

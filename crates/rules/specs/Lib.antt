@@ -1,0 +1,5 @@
+pub mod Rules
+pub mod Choices
+pub mod ChoiceLaws
+pub mod Settle
+pub mod Steady

@@ -1,0 +1,123 @@
+-- One turn of a replay: the script after it, and the text that it writes. Assumes nothing.
+use Prim.Native.Nat.{ℕ, suc, _+_, _*_, _-_, _/_, _%_, _^_, _≤_, _<_, zero-le}
+use mathlib.Core.Bool.{Bool, true, false, cond, _&&_, false≢true}
+use mathlib.Core.Path.{_≡_, refl, sym, _∙_, ap, ap₂, subst}
+use mathlib.Core.List.{List, []}
+use native.Mathlib.Nat.{div-mul-le-self, mul-le-mul-right, suc-mul}
+use native.Mathlib.Numerals.{add-one}
+use native.Mathlib.Omega.{arith}
+use lib.ListN.{length, take, drop, length-drop}
+use lib.Seq.{take-all}
+use Rattle.system.specs.declared.Answer.{Answer}
+use Rattle.system.specs.Answers.{told}
+use Rattle.system.specs.Shape.{withinSizes}
+use Rattle.host.specs.declared.Host.{Host}
+use Rattle.host.specs.declared.Outcome.{Outcome}
+use Rattle.host.specs.declared.Call.{Call}
+use Rattle.host.specs.Step.{step, freshHost}
+use Rattle.host.specs.Outcomes.{HostOutcome, hostOutcome, stepCounted, builtHost}
+use Rattle.records.specs.declared.Shape.{Shape}
+use Rattle.records.specs.declared.Plan.{Plan}
+use Rattle.records.specs.Records.{planOf}
+use Rattle.text.specs.Lines.{answerLine}
+use Rattle.text.specs.Places.{put, Placed, placed-then}
+use Rattle.script.specs.declared.Script.{Script}
+use Rattle.script.specs.Rows.{hostText}
+use Rattle.script.specs.Script.{carried, builtAfter, scriptNext, lineTold, hostShown, entry, scriptAfter, text, room}
+
+abbrev pub scriptOf : ℕ → Bool → Host → Script
+scriptOf number built h = record { number = number; built = built; host = h }
+
+-- what is left of the bytes, as a part of a slice
+pub left-of : (bs : List ℕ) (from : ℕ) → take (length bs - from) (drop from bs) ≡ drop from bs
+left-of bs from = take-all (length bs - from) (drop from bs) (omega (arith, length-drop from bs))
+
+-- what a turn found of the record at the start of d
+pub record Turn (c : Script) (d : List ℕ) (p : Plan) (r : Outcome) (m : ℕ) (b : Bool) : Type 0 where
+  pub plan : p ≡ planOf (c .built) d
+  pub outcome : hostOutcome r ≡ carried (c .host) p
+  pub number : m ≡ (c .number + 1) % 2 ^ 64
+  pub built : b ≡ builtAfter (c .built) p
+
+pub turn-next : {c : Script} {d : List ℕ} {p : Plan} {r : Outcome} {m : ℕ} {b : Bool} → Turn c d p r m b → scriptOf m b (r .host) ≡ scriptNext c d
+unfolding scriptNext
+turn-next {c} {d} {p} {r} {m} {b} t =
+    let h = ap (λ (x : HostOutcome). x .host) (t .outcome ∙ ap (carried (c .host)) (t .plan)) in
+    let after-it = t .built ∙ ap (builtAfter (c .built)) (t .plan) in
+    ap (λ (n : ℕ). scriptOf n b (r .host)) (t .number) ∙ ap₂ (λ (x : Bool) (y : Host). scriptOf ((c .number + 1) % 2 ^ 64) x y) after-it h
+
+pub turn-line : {c : Script} {d : List ℕ} {p : Plan} {r : Outcome} {m : ℕ} {b : Bool} → Turn c d p r m b
+    → answerLine m (told (r .answer)) (r .count) ≡ lineTold c d
+turn-line {c} {d} {p} {r} t =
+    let x = t .outcome ∙ ap (carried (c .host)) (t .plan) in
+    ap (λ (n : ℕ). answerLine n (told (r .answer)) (r .count)) (t .number)
+    ∙ ap₂ (answerLine ((c .number + 1) % 2 ^ 64)) (ap (λ (h : HostOutcome). h .number) x) (ap (λ (h : HostOutcome). h .count) x)
+
+-- the text of one record more
+pub text-more : (states : Bool) (c : Script) (bs : List ℕ) (i : ℕ) {before out mid after′ : List ℕ} {w m end : ℕ}
+    → Placed before 0 (text states c bs i) out w → w ≤ length out
+    → Placed out w (lineTold (scriptAfter c bs i) (drop (i * 20) bs)) mid m
+    → Placed mid m (hostShown states (scriptNext (scriptAfter c bs i) (drop (i * 20) bs))) after′ end
+    → Placed before 0 (text states c bs (suc i)) after′ end
+unfolding text entry
+text-more states c bs i p l q r = placed-then zero-le p (placed-then l q r)
+
+-- the host is shown where it is asked for and there is one
+pub shown : (states : Bool) (c : Script) (b : Bool) → b ≡ states && c .built → b ≡ true → hostText (c .host) ≡ hostShown states c
+shown states c b e f = sym (ap (λ (a : Bool). cond a (hostText (c .host)) []) (sym e ∙ f))
+
+pub hidden : (states : Bool) (c : Script) (b : Bool) → b ≡ states && c .built → b ≡ false → [] ≡ hostShown states c
+hidden states c b e f = sym (ap (λ (a : Bool). cond a (hostText (c .host)) []) (sym e ∙ f))
+
+pub room-more : (i r w : ℕ) → w ≤ i * r + r → w ≤ (i + 1) * r
+room-more i r w h = subst (λ (n : ℕ). w ≤ n) (sym (ap (λ (j : ℕ). j * r) (add-one i) ∙ suc-mul i r)) h
+
+-- what i of n records took fits, and there is room for one more
+pub room-taken : (n l room i w : ℕ) → n ≤ l / room → i ≤ n → w ≤ i * room → w ≤ l
+room-taken n l room i w h k b = omega (arith, div-mul-le-self l room, mul-le-mul-right room h, mul-le-mul-right room k, b)
+
+pub room-left : (n l room i w : ℕ) → n ≤ l / room → i < n → w ≤ i * room → w + room ≤ l
+room-left n l room i w h k b = room-taken n l room (i + 1) (w + room) h (omega arith) (room-more i room (w + room) (omega arith))
+
+pub room-least : (states : Bool) → 63 ≤ room states
+room-least true = omega arith
+room-least false = omega arith
+
+pub room-asked : (states b x : Bool) → b ≡ states && x → b ≡ true → room states ≡ 26000
+room-asked true b x e f = refl
+room-asked false b x e f = absurd (false≢true (sym e ∙ f))
+
+-- the same text, bytes and end, under other names
+pub placed-as : {before t t′ after after′ : List ℕ} {at end end′ : ℕ} → Placed before at t after end → t ≡ t′ → after′ ≡ after → end′ ≡ end
+    → Placed before at t′ after′ end′
+placed-as {before} {at = at} p e f g =
+    record { bytes = f ∙ p .bytes ∙ ap (put before at) e; past = g ∙ p .past ∙ ap (λ (u : List ℕ). at + length u) e }
+
+-- a build moves nobody
+built-moves : (d v p q : ℕ) → (builtHost d v p q) .count ≡ 0
+built-moves d v p q = go (withinSizes d v p)
+  where
+    go : (b : Bool)
+        → (cond {A = HostOutcome} b (record { number = 0; host = freshHost d v p d v q; count = 0 }) (record { number = 7; host = freshHost 0 0 0 0 0 0; count = 0 })) .count ≡ 0
+    go true = refl
+    go false = refl
+
+-- what each kind of plan hands back
+module _ (h : Host) {h′ : Host} {p : Plan} {answer : Answer} {moves : ℕ} where
+  pub told-refused : {a : Answer} → p ≡ Plan.Refuse a → h′ ≡ h → answer ≡ a → moves ≡ 0
+      → hostOutcome (record { host = h′; answer = answer; count = moves }) ≡ carried h p
+  unfolding carried
+  told-refused e f g k = rw (e, f, g, k)
+
+  pub told-built : {s : Shape} (t : Outcome) → p ≡ Plan.Build s
+      → hostOutcome t ≡ builtHost (s .«num_domains») (s .«vcpus_per_domain») (s .«num_pcpus») (s .quantum)
+      → h′ ≡ t .host → answer ≡ t .answer → moves ≡ 0 → hostOutcome (record { host = h′; answer = answer; count = moves }) ≡ carried h p
+  unfolding carried
+  told-built {s} t e made f g k =
+      let none = ap (λ (x : HostOutcome). x .count) made ∙ built-moves (s .«num_domains») (s .«vcpus_per_domain») (s .«num_pcpus») (s .quantum) in
+      rw (e, f, g, k ∙ sym none) made
+
+  pub told-called : {c : Call} (t : Outcome) → p ≡ Plan.Call c → hostOutcome t ≡ stepCounted (step h c) → h′ ≡ t .host → answer ≡ t .answer
+      → moves ≡ t .count → hostOutcome (record { host = h′; answer = answer; count = moves }) ≡ carried h p
+  unfolding carried
+  told-called t e made f g k = rw (e, f, g, k) made

@@ -1,0 +1,80 @@
+-- What can be read of a host, as four lines of numbers: each number is what the definition of a read answers.
+use Prim.Native.Nat.{ℕ, _+_, _≤_}
+use mathlib.Core.Bool.{Bool, cond}
+use mathlib.Core.Path.{_≡_}
+use mathlib.Core.List.{List, _∷_, _++_}
+use lib.Dec.{leb}
+use lib.ListN.{length}
+use borrow.Author.Tests.{le-leb}
+use Rattle.service.specs.Service.{held}
+use Rattle.system.specs.declared.System.{System}
+use Rattle.system.specs.Reads.{vcpuCount, stateOf, isRunning, runtimeOf, onCpuSince, occupantOf}
+use Rattle.system.specs.Reads.{affinityOf, affinityPermits, fullAffinity, busyPcpus}
+use Rattle.system.specs.Slots.{domains, pcpus}
+use Rattle.verdict.specs.Violations.{firstViolation, invariantsHold}
+use Rattle.policy.specs.declared.Scheduler.{Scheduler}
+use Rattle.policy.specs.Accounts.{weightOf}
+use Rattle.advance.specs.Advance.{next}
+use Rattle.usage.specs.Usage.{usage}
+use Rattle.text.specs.Lines.{vcpuLine}
+use Rattle.text.specs.Places.{put, Placed}
+use Rattle.test_reads.specs.declared.Query.{Query}
+use Rattle.test_reads.specs.Numbers.{bit, maybeStateNumber, maybeNumbers, holderNumbers, violationNumbers, decisionNumbers}
+
+-- the vCPU: its state, whether it runs, its run time, since when it is on its pCPU, its mask
+unfoldable pub vcpuNumbers : System → Query → List ℕ
+vcpuNumbers s q =
+    maybeStateNumber (stateOf s (q .dom) (q .vcpu))
+    ∷ bit (isRunning s (q .dom) (q .vcpu))
+    ∷ maybeNumbers (runtimeOf s (q .dom) (q .vcpu))
+    ++ (maybeNumbers (onCpuSince s (q .dom) (q .vcpu)) ++ maybeNumbers (affinityOf s (q .dom) (q .vcpu)))
+
+-- whether its mask admits the pCPU, its weight, its domain's vCPUs, the mask of all pCPUs, what its domain used, by limbs
+unfoldable pub domainNumbers : System → Scheduler → Query → List ℕ
+domainNumbers s π q =
+    bit (affinityPermits s (q .dom) (q .vcpu) (q .pcpu))
+    ∷ weightOf π (q .dom) (q .vcpu)
+    ∷ vcpuCount s (q .dom)
+    ∷ fullAffinity s
+    ∷ held (usage s (q .dom))
+
+-- domains, pCPUs, busy pCPUs, the slice, whether the system is sound, who holds the pCPU
+unfoldable pub hostNumbers : System → Scheduler → ℕ → List ℕ
+hostNumbers s π p =
+    domains s
+    ∷ pcpus s
+    ∷ busyPcpus s
+    ∷ π .quantum
+    ∷ bit (invariantsHold s)
+    ∷ holderNumbers (occupantOf s p)
+
+-- what is wrong first; what `next` is told at that clock, and what it recommends
+unfoldable pub moveNumbers : System → Scheduler → ℕ → List ℕ
+moveNumbers s π t =
+    violationNumbers (firstViolation s)
+    ++ ((next s π t) .number ∷ decisionNumbers ((next s π t) .decision))
+
+unfoldable pub readsText : System → Scheduler → Query → List ℕ
+readsText s π q =
+    vcpuLine (vcpuNumbers s q)
+    ++ vcpuLine (domainNumbers s π q)
+    ++ vcpuLine (hostNumbers s π (q .pcpu))
+    ++ vcpuLine (moveNumbers s π (q .clock))
+
+-- there is room for four lines at index `at`
+abbrev pub roomy : List ℕ → ℕ → Bool
+roomy out at = leb (at + 676) (length out)
+
+-- their text put there, and the index past it
+abbrev pub readsPut : List ℕ → ℕ → List ℕ → List ℕ
+readsPut out at t = cond (roomy out at) (put out at t) out
+
+abbrev pub readsEnd : List ℕ → ℕ → List ℕ → ℕ
+readsEnd out at t = cond (roomy out at) (at + length t) at
+
+-- where there is room, they stand there
+pub reads-placed : {out t after : List ℕ} {at end : ℕ} → at + 676 ≤ length out → after ≡ readsPut out at t → end ≡ readsEnd out at t
+    → Placed out at t after end
+reads-placed {out} {at = at} h e f =
+    let there = le-leb (at + 676) (length out) h in
+    record { bytes = rw there at e; past = rw there at f }
