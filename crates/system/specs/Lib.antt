@@ -5,3 +5,4 @@ pub mod Shape
 pub mod Slots
 pub mod Reads
 pub mod Writes
+pub mod Rows

@@ -1,8 +1,9 @@
 -- What can be read of a system, damaged or not.
-use Prim.Native.Nat.{ℕ, zero, suc, _+_, min}
+use Prim.Native.Nat.{ℕ, zero, suc, _+_, _<_, min}
 use mathlib.Core.Bool.{Bool, true, false, cond, not, _&&_, false≢true}
-use mathlib.Core.Path.{_≡_, refl}
+use mathlib.Core.Path.{_≡_, refl, ap, ap₂}
 use mathlib.Core.List.{List}
+use native.Mathlib.Omega.{arith}
 use lib.Dec.{ltb}
 use lib.ListN.{getD}
 use Rattle.masks.specs.Masks.{permits, fullMask}
@@ -115,6 +116,13 @@ fullAffinity s = fullMask (s .«pcpu_count»)
 unfoldable pub count : (ℕ → Bool) → ℕ → ℕ
 count f zero = 0
 count f (suc n) = count f n + cond (f n) 1 0
+
+-- it depends only on what f says of these
+pub count-same : (f g : ℕ → Bool) (n : ℕ) → ((i : ℕ) → i < n → f i ≡ g i) → count f n ≡ count g n
+unfolding count
+count-same f g zero h = refl
+count-same f g (suc n) h =
+    ap₂ _+_ (count-same f g n (λ i l. h i (omega arith))) (ap (λ (b : Bool). cond b 1 0) (h n (omega arith)))
 
 -- how many of the first n pCPUs of a table somebody holds
 abbrev pub busyIn : List PhysicalCpu → ℕ → ℕ

@@ -2,13 +2,13 @@
 -- Assumes nothing.
 use Prim.Native.Nat.{ℕ, zero, suc, _+_, _≤_, _<_, zero-le}
 use mathlib.Core.Bool.{Bool, true, false, cond}
-use mathlib.Core.Path.{_≡_, refl, _∙_, ap, ap₂}
+use mathlib.Core.Path.{_≡_, refl, _∙_, ap}
 use mathlib.Core.Logic.{⊎-elim}
 use native.Mathlib.Nat.{eq-or-lt-of-le}
 use native.Mathlib.Omega.{arith}
 use lib.Dec.{eqb}
 use borrow.Author.Tests.{eq-eqb, ne-eqb}
-use Rattle.system.specs.Reads.{count}
+use Rattle.system.specs.Reads.{count, count-same}
 
 -- `to` maps the numbers below n that have f to numbers below m that have g, no two to one
 pub record Into (f g : ℕ → Bool) (n m : ℕ) (to : ℕ → ℕ) : Type 0 where
@@ -22,12 +22,6 @@ but g q i = cond (eqb i q) false (g i)
 
 elsewhere : (g : ℕ → Bool) (q i : ℕ) → (i ≡ q → ⊥) → but g q i ≡ g i
 elsewhere g q i h = rw (ne-eqb i q h)
-
-count-same : (f g : ℕ → Bool) (n : ℕ) → ((i : ℕ) → i < n → f i ≡ g i) → count f n ≡ count g n
-unfolding count
-count-same f g zero h = refl
-count-same f g (suc n) h =
-    ap₂ _+_ (count-same f g n (λ i l. h i (omega arith))) (ap (λ (b : Bool). cond b 1 0) (h n (omega arith)))
 
 -- one place less is one less
 count-but : (g : ℕ → Bool) (q m : ℕ) → q < m → g q ≡ true → count g m ≡ suc (count (but g q) m)

@@ -1,3 +1,4 @@
 pub mod Violations
 pub mod Internal
 pub mod Sound
+pub mod Rows
