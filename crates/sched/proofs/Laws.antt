@@ -10,3 +10,5 @@ pub use Rattle.sched.proofs.Invariants.{made-keeps, unchanged, and-then
 pub use Rattle.sched.proofs.Legal.{NotRunning, keeps, Legal, stays, busy, goes-on, comes-off}
 -- on a sound system every request is a legal change
 pub use Rattle.sched.proofs.LegalRequests.{off-nr, ready-nr, blocked-nr, made-legal}
+-- a request that passes every test is made; `offline_all` is `offline` of each vCPU of the domain
+pub use Rattle.sched.proofs.OfflineEach.{requested-made, offline-all-each}

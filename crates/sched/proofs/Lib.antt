@@ -8,3 +8,4 @@ mod Cases
 mod Runtime
 mod Invariants
 mod Fresh
+mod OfflineEach

@@ -20,12 +20,12 @@ use Rattle.sched.specs.Steps.{refused, applied, tested, requested, offli
 pub record Answered (s : System) (r : SystemOutcome) : Type 0 where
   pub answer : Answer
   pub listed : r .number ≡ told answer
-  pub refused : (r .number ≡ 0 → ⊥) → r .system ≡ s
+  pub refused : (r .number ≡ told Done → ⊥) → r .system ≡ s
 
 told-refused : (s : System) (a : Answer) → Answered s (refused a s)
 told-refused s a = record { answer = a; listed = refl; refused = λ n. refl }
 
-told-done : (s t : System) → Answered s (record { number = 0; system = t })
+told-done : (s t : System) → Answered s (record { number = told Done; system = t })
 told-done s t = record { answer = Done; listed = refl; refused = λ n. absurd (n refl) }
 
 tested-answered : (s : System) (b : Bool) (a : Answer) {r : SystemOutcome} → Answered s r → Answered s (tested b a s r)

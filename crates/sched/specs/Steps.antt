@@ -6,7 +6,7 @@ use Rattle.masks.specs.Masks.{clipped}
 use Rattle.system.specs.declared.Occupant.the-variants.{Idle, Vcpu}
 use Rattle.system.specs.declared.System.{System}
 use Rattle.system.specs.declared.Answer.{Answer}
-use Rattle.system.specs.declared.Answer.the-variants.{BadDomain, BadVcpu, BadPcpu, PcpuBusy, Unsound}
+use Rattle.system.specs.declared.Answer.the-variants.{Done, BadDomain, BadVcpu, BadPcpu, PcpuBusy, Unsound}
 use Rattle.system.specs.Answers.{told, SystemOutcome}
 use Rattle.system.specs.Reads.{vcpuAt, occupantAt, isIdle, vcpuCount, fullAffinity}
 use Rattle.system.specs.Writes.{putVcpu, putOccupant}
@@ -22,7 +22,7 @@ abbrev pub refused : Answer → System → SystemOutcome
 refused a s = record { number = told a; system = s }
 
 abbrev pub done : System → SystemOutcome
-done s = record { number = 0; system = s }
+done s = record { number = told Done; system = s }
 
 -- a call that fails a test is told a
 abbrev pub tested : Bool → Answer → System → SystemOutcome → SystemOutcome
