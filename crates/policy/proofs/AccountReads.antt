@@ -8,8 +8,7 @@ use lib.ListN.{length, getD}
 use Rattle.system.specs.Slots.{slot}
 use Rattle.policy.specs.declared.Account.{Account}
 use Rattle.policy.specs.declared.Scheduler.{Scheduler}
-use Rattle.policy.specs.Accounts.{plain, blankAccount, accountAt, covers, accountOf}
-use Rattle.policy.proofs.AccountLaws.{Tabled}
+use Rattle.policy.specs.Accounts.{Tabled, plain, blankAccount, accountAt, covers, accountOf}
 
 -- an element that is there does not depend on what is read past the end
 any-default : (l : List Account) (i : ℕ) (a b : Account) → i < length l → getD l i a ≡ getD l i b

@@ -7,8 +7,7 @@ use native.Mathlib.Omega.{arith}
 use lib.ListN.{length, getD, set}
 use Rattle.policy.specs.declared.Account.{Account}
 use Rattle.policy.specs.declared.Scheduler.{Scheduler}
-use Rattle.policy.specs.Accounts.{withAccounts, unboosted, setWakeBoost}
-use Rattle.policy.proofs.AccountLaws.{Tabled}
+use Rattle.policy.specs.Accounts.{Tabled, withAccounts, unboosted, setWakeBoost}
 
 -- the first i offsets cleared
 unfoldable pub clearFirst : List Account → ℕ → List Account

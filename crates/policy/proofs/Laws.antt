@@ -1,9 +1,13 @@
 -- What other crates cite of these proofs.
 
--- what accounting changes and what it keeps
-pub use Rattle.policy.proofs.AccountLaws.{Tabled, put-same, renew-same, covers-below, accounted-weight, accounted-snapshot}
-pub use Rattle.policy.proofs.AccountLaws.{accounted-offset, floor-stayed, cleared, Weighed, set-weighed, set-weight-tabled}
-pub use Rattle.policy.proofs.AccountLaws.{cleared-tabled}
+-- what these laws ask of a policy
+pub use Rattle.policy.specs.Accounts.{Tabled}
+-- what is looked up after an account was put
+pub use Rattle.policy.proofs.AccountPuts.{covers-below, put-same}
+-- what setting a weight, and clearing the offsets, leave
+pub use Rattle.policy.proofs.SettingLaws.{set-weighed, set-weight-either, set-weight-tabled, cleared, cleared-tabled}
+-- what accounting leaves
+pub use Rattle.policy.proofs.RenewalLaws.{renew-same, accounted-renewal}
 -- what the code reads at a slot is the account there
 pub use Rattle.policy.proofs.AccountReads.{zeros, looked}
 -- a slot's vCPU id, tested against a count that is held at 8

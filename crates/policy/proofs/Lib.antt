@@ -5,4 +5,6 @@ mod AccountReads
 mod ClearLoop
 mod FloorLoop
 mod RenewalLoop
-mod AccountLaws
+mod AccountPuts
+mod SettingLaws
+mod RenewalLaws

@@ -15,13 +15,14 @@ use Rattle.system.specs.Slots.{slot, present}
 use Rattle.policy.specs.declared.Account.{Account}
 use Rattle.policy.specs.declared.Standing.{Standing}
 use Rattle.policy.specs.declared.Scheduler.{Scheduler}
-use Rattle.policy.specs.Accounts.{plain, covers, accountOf, withAccounts, putAccount}
+use Rattle.policy.specs.Accounts.{Tabled, plain, covers, accountOf, withAccounts, putAccount}
 use Rattle.policy.specs.Standing.{weightAt, serviceAt}
 use Rattle.policy.specs.Accounting.{floor, lift, lifted, renewed, renewFirst}
-use Rattle.policy.proofs.AccountLaws.{Tabled, same-covers, renew-same, kept-until}
 use Rattle.policy.specs.Internal.{Leads, none, one, liftedTo, renewedAt}
 use Rattle.policy.proofs.Ids.{vcpu-below, vcpu-beyond}
 use Rattle.policy.proofs.AccountReads.{zeros, looked}
+use Rattle.policy.proofs.AccountPuts.{same-covers}
+use Rattle.policy.proofs.RenewalLaws.{renew-same, kept-until}
 
 module _ (s : System) (π : Scheduler) (now i : ℕ) where
   abbrev account : Account

@@ -1,9 +1,10 @@
 -- What the policy keeps of each vCPU, and what is looked up, in its shape or outside it.
 use Prim.Native.Nat.{ℕ, _/_, _%_, min, max}
 use mathlib.Core.Bool.{Bool, true, false, cond, _&&_}
+use mathlib.Core.Path.{_≡_}
 use mathlib.Core.List.{List, [], _∷_, map}
 use lib.Dec.{ltb, leb}
-use lib.ListN.{getD, set, replicate}
+use lib.ListN.{length, getD, set, replicate}
 use Rattle.service.specs.Service.{value}
 use Rattle.system.specs.declared.Answer.the-variants.{Done, TooLarge}
 use Rattle.system.specs.Answers.{told}
@@ -79,6 +80,10 @@ withAccounts π l =
 -- another account for d/v, if it is in the shape
 unfoldable pub putAccount : Scheduler → ℕ → ℕ → Account → Scheduler
 putAccount π d v a = cond (covers π d v) (withAccounts π (set (π .accounts) (slot d v) a)) π
+
+-- the accounts are as many as the code's
+pub record Tabled (π : Scheduler) : Type 0 where
+  pub accounts : length (π .accounts) ≡ 128
 
 -- a policy as built
 unfoldable pub freshPolicy : ℕ → ℕ → ℕ → Scheduler

@@ -1,4 +1,10 @@
 pub mod Accounts
 pub mod Standing
 pub mod Accounting
+pub mod RowHosts
+pub mod Rows
+pub mod Exact
+pub mod FloorLaws
+pub mod Settings
+pub mod Renewal
 pub mod Internal

@@ -9,7 +9,7 @@ use borrow.Author.Needs.{needs}
 use Rattle.system.specs.Reads.{vcpuAt}
 use Rattle.system.specs.Slots.{slots}
 use Rattle.policy.specs.Accounting.{renewFirst, accounted}
-use Rattle.policy.proofs.AccountLaws.{Tabled}
+use Rattle.policy.specs.Accounts.{Tabled}
 use Rattle.policy.proofs.RenewalLoop.{renews, outside-vcpus, outside-domains}
 use Rattle.policy.proofs.accounted.Statement.{statement}
 use Rattle.policy.proofs.accounted.Tie as tie

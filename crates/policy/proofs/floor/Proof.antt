@@ -11,7 +11,7 @@ use Rattle.system.specs.Slots.{slots}
 use Rattle.scan.specs.Scan.{scan}
 use Rattle.policy.specs.declared.Account.{Account}
 use Rattle.policy.specs.Accounting.{floor}
-use Rattle.policy.proofs.AccountLaws.{Tabled}
+use Rattle.policy.specs.Accounts.{Tabled}
 use Rattle.policy.specs.Internal.{leader, Leads, none}
 use Rattle.policy.proofs.Ids.{vcpu-below, vcpu-beyond}
 use Rattle.policy.proofs.AccountReads.{looked}

@@ -5,7 +5,7 @@ use native.Mathlib.Numerals.{add-one}
 use native.Mathlib.Omega.{arith}
 use lib.ListN.{length-map}
 use borrow.Author.Needs.{needs}
-use Rattle.policy.proofs.AccountLaws.{Tabled}
+use Rattle.policy.specs.Accounts.{Tabled}
 use Rattle.policy.proofs.AccountReads.{zeros}
 use Rattle.policy.proofs.ClearLoop.{clearedTo, begun, turned, ended}
 use Rattle.policy.proofs.Scheduler.set_wake_boost.Statement.{statement}

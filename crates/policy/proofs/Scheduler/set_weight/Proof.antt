@@ -5,8 +5,7 @@ use native.Mathlib.Omega.{arith}
 use lib.ListN.{set, length-map}
 use borrow.Author.Needs.{needs}
 use Rattle.policy.specs.declared.Account.{Account}
-use Rattle.policy.specs.Accounts.{raised, accountOf, withAccounts, putAccount, withWeight, setWeight}
-use Rattle.policy.proofs.AccountLaws.{Tabled}
+use Rattle.policy.specs.Accounts.{Tabled, raised, accountOf, withAccounts, putAccount, withWeight, setWeight}
 use Rattle.system.specs.Slots.{slot}
 use Rattle.system.proofs.Laws.{below, beyond}
 use Rattle.policy.proofs.AccountReads.{stored}

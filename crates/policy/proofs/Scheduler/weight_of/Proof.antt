@@ -4,8 +4,7 @@ use mathlib.Core.Path.{_∙_, ap}
 use native.Mathlib.Omega.{arith}
 use lib.ListN.{length-map}
 use borrow.Author.Needs.{needs}
-use Rattle.policy.specs.Accounts.{accountOf, usedWeight}
-use Rattle.policy.proofs.AccountLaws.{Tabled}
+use Rattle.policy.specs.Accounts.{Tabled, accountOf, usedWeight}
 use Rattle.system.specs.Slots.{slot}
 use Rattle.system.proofs.Laws.{below, beyond}
 use Rattle.policy.proofs.AccountReads.{stored}
