@@ -1,8 +1,10 @@
+pub mod Laws
 mod IdleSet
 mod Limit
 mod Lookups
 mod AdvanceResult
-pub mod Recommendations
+mod Enacting
+mod Recommendations
 mod SettleLoop
 mod SettleMoves
 mod Rows

@@ -1,18 +1,20 @@
 -- What `next` recommends is done: the mechanism's own calls accept it, and do what an advance does of it. Assumes nothing.
-use Prim.Native.Nat.{ℕ, _/_, _%_}
+use Prim.Native.Nat.{ℕ, _/_, _%_, _≤_}
 use mathlib.Core.Bool.{Bool, true, false, cond}
-use mathlib.Core.Path.{_≡_, refl, sym, _∙_, ap}
+use mathlib.Core.Path.{_≡_, refl, sym, _∙_, ap, subst}
+use native.Mathlib.Omega.{arith}
 use borrow.Author.Tests.{lt-ltb}
 use Rattle.scan.specs.Booleans.{zero-one}
 use Rattle.system.specs.declared.System.{System}
-use Rattle.system.specs.declared.Answer.the-variants.{Unsound}
+use Rattle.system.specs.declared.Answer.the-variants.{Done, Unsound}
 use Rattle.system.specs.Answers.{told, SystemOutcome}
-use Rattle.system.specs.Slots.{domains, vcpus, pcpus, Present, slot-of}
+use Rattle.system.specs.Slots.{pcpus, slot, Present, slot-of}
 use Rattle.verdict.specs.Violations.{invariantsHold}
 use Rattle.verdict.specs.Sound.{Sound, sound-iff}
 use Rattle.changes.specs.declared.Request.{Request}
 use Rattle.sched.specs.Steps.{made, requested, run, preempt}
 use Rattle.sched.specs.CanRun.{CanRun}
+use Rattle.sched.proofs.Laws.{requested-made}
 use Rattle.moves.specs.declared.Choice.{Choice}
 use Rattle.moves.specs.declared.Choice.the-variants.{Run, Preempt, Rest}
 use Rattle.policy.specs.declared.Scheduler.{Scheduler}
@@ -22,28 +24,26 @@ use Rattle.advance.specs.declared.Decision.{Decision}
 use Rattle.advance.specs.declared.Decision.the-variants as decision
 use Rattle.rules.specs.Choices.{choice}
 use Rattle.advance.specs.Advance.{named, NextOutcome, next}
-use Rattle.rules.specs.ChoiceLaws.{choice-run, choice-preempt}
+use Rattle.rules.specs.ChoiceLaws.{choice-run, choice-lowest, choice-preempt}
 use Rattle.rules.proofs.Laws.{run-enacted, preempt-enacted}
 use Rattle.advance.specs.ServiceRule.{ruleOf}
 
--- a request of a vCPU that exists passes the tests of a sound system
-requested-made : (s : System) → Sound s → (i : ℕ) → Present s i → (q : Request) → reaches q (pcpus s) ≡ true
+-- a request by the ids of slot i is made at slot i
+request-made : (s : System) → Sound s → (i : ℕ) → Present s i → (q : Request) → reaches q (pcpus s) ≡ true
     → requested s (i / 8) (i % 8) q ≡ made s i q
-unfolding requested
-requested-made s S i h q r =
-    rw (sound-iff s .1 S, r, lt-ltb (i / 8) (domains s) (h .domain), lt-ltb (i % 8) (vcpus s) (h .vcpu))
-    (ap (λ (j : ℕ). made s j q) (slot-of i))
+request-made s S i h q r =
+    requested-made s S (i / 8) (i % 8) (h .domain) (h .vcpu) q r ∙ ap (λ (j : ℕ). made s j q) (slot-of i)
 
 module _ (s : System) (S : Sound s) (now i p : ℕ) where
   -- an advance's dispatch is the call `run`
   pub enacted-run : CanRun s i p → enacted s now (Run i p) ≡ run s (i / 8) (i % 8) p now
   unfolding enacted
-  enacted-run c = sym (requested-made s S i (c .present) (Request.Run p now) (lt-ltb p (pcpus s) (c .exists)))
+  enacted-run c = sym (request-made s S i (c .present) (Request.Run p now) (lt-ltb p (pcpus s) (c .exists)))
 
   -- and its preemption the call `preempt`
   pub enacted-preempt : Present s i → enacted s now (Preempt i p) ≡ preempt s (i / 8) (i % 8) now
   unfolding enacted
-  enacted-preempt h = sym (requested-made s S i h (Request.Preempt now) refl)
+  enacted-preempt h = sym (request-made s S i h (Request.Preempt now) refl)
 
 module _ (s : System) (π : Scheduler) (now : ℕ) where
   -- a decision other than Idle is that of the choice, on a sound system
@@ -52,18 +52,18 @@ module _ (s : System) (π : Scheduler) (now : ℕ) where
   decided D n e = go (invariantsHold s) refl e
     where
       go : (b : Bool) → invariantsHold s ≡ b
-          → (cond {A = NextOutcome} b (record { number = 0; decision = named (choice s (ruleOf π) now) }) (record { number = told Unsound; decision = decision.Idle })) .decision ≡ D
+          → (cond {A = NextOutcome} b (record { number = told Done; decision = named (choice s (ruleOf π) now) }) (record { number = told Unsound; decision = decision.Idle })) .decision ≡ D
           → Sound s × (named (choice s (ruleOf π) now) ≡ D)
       go true h f = (sound-iff s .0 h, f)
       go false h f = absurd (n (sym f))
 
   -- who is told to run a vCPU, and runs it, is told 0
-  pub next-run-accepted : (d v p : ℕ) → (next s π now) .decision ≡ decision.Run d v p → (run s d v p now) .number ≡ 0
+  pub next-run-accepted : (d v p : ℕ) → (next s π now) .decision ≡ decision.Run d v p → (run s d v p now) .number ≡ told Done
   next-run-accepted d v p e =
       let x = decided (decision.Run d v p) (λ f. zero-one cc) e in
       go (x .0) (choice s (ruleOf π) now) refl (x .1)
     where
-      go : Sound s → (c : Choice) → choice s (ruleOf π) now ≡ c → named c ≡ decision.Run d v p → (run s d v p now) .number ≡ 0
+      go : Sound s → (c : Choice) → choice s (ruleOf π) now ≡ c → named c ≡ decision.Run d v p → (run s d v p now) .number ≡ told Done
       go S (Run i q) f h =
           let a : i / 8 ≡ d = cc in
           let b : i % 8 ≡ v = cc in
@@ -74,12 +74,12 @@ module _ (s : System) (π : Scheduler) (now : ℕ) where
       go S Rest f h = absurd (zero-one cc)
 
   -- and so is who is told to preempt one, and does
-  pub next-preempt-accepted : (d v p : ℕ) → (next s π now) .decision ≡ decision.Preempt d v p → (preempt s d v now) .number ≡ 0
+  pub next-preempt-accepted : (d v p : ℕ) → (next s π now) .decision ≡ decision.Preempt d v p → (preempt s d v now) .number ≡ told Done
   next-preempt-accepted d v p e =
       let x = decided (decision.Preempt d v p) (λ f. zero-one cc) e in
       go (x .0) (choice s (ruleOf π) now) refl (x .1)
     where
-      go : Sound s → (c : Choice) → choice s (ruleOf π) now ≡ c → named c ≡ decision.Preempt d v p → (preempt s d v now) .number ≡ 0
+      go : Sound s → (c : Choice) → choice s (ruleOf π) now ≡ c → named c ≡ decision.Preempt d v p → (preempt s d v now) .number ≡ told Done
       go S (Preempt i q) f h =
           let a : i / 8 ≡ d = cc in
           let b : i % 8 ≡ v = cc in
@@ -87,3 +87,19 @@ module _ (s : System) (π : Scheduler) (now : ℕ) where
           rw (← a, ← b) (ap (λ (r : SystemOutcome). r .number) (sym (enacted-preempt s S now i q (c .present)) ∙ preempt-enacted s now i q (c .on)))
       go S (Run i q) f h = absurd (zero-one cc)
       go S Rest f h = absurd (zero-one cc)
+
+  -- a Run that is recommended is onto the lowest-numbered pCPU that its vCPU may be dispatched onto
+  pub next-lowest : (d v p q : ℕ) → (next s π now) .decision ≡ decision.Run d v p → CanRun s (slot d v) q → p ≤ q
+  next-lowest d v p q e can =
+      let x = decided (decision.Run d v p) (λ f. zero-one cc) e in
+      go (choice s (ruleOf π) now) refl (x .1)
+    where
+      go : (c : Choice) → choice s (ruleOf π) now ≡ c → named c ≡ decision.Run d v p → p ≤ q
+      go (Run i r) f h =
+          let a : i / 8 ≡ d = cc in
+          let b : i % 8 ≡ v = cc in
+          let k : r ≡ p = cc in
+          let j : slot d v ≡ i = omega arith in
+          rw (← k) (choice-lowest s (ruleOf π) now i r q f (subst (λ (n : ℕ). CanRun s n q) j can))
+      go (Preempt i r) f h = absurd (zero-one cc)
+      go Rest f h = absurd (zero-one cc)

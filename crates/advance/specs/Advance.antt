@@ -3,7 +3,7 @@ use Prim.Native.Nat.{ℕ, _/_, _%_}
 use mathlib.Core.Bool.{cond}
 use mathlib.Core.List.{List, []}
 use Rattle.system.specs.declared.System.{System}
-use Rattle.system.specs.declared.Answer.the-variants.{Unsound}
+use Rattle.system.specs.declared.Answer.the-variants.{Done, Unsound}
 use Rattle.system.specs.Answers.{told}
 use Rattle.verdict.specs.Violations.{invariantsHold}
 use Rattle.moves.specs.declared.Choice.{Choice}
@@ -29,7 +29,7 @@ pub record NextOutcome : Type 0 where
 
 unfoldable pub next : System → Scheduler → ℕ → NextOutcome
 next s π now =
-    cond (invariantsHold s) (record { number = 0; decision = named (choice s (ruleOf π) now) })
+    cond (invariantsHold s) (record { number = told Done; decision = named (choice s (ruleOf π) now) })
     (record { number = told Unsound; decision = decision.Idle })
 
 -- what an advance is told, and what it leaves; the count that it answers is the number of moves
@@ -44,7 +44,7 @@ abbrev pub soundAdvance : System → Scheduler → ℕ → Advance
 soundAdvance s π now =
     let ρ = accounted s π now in
     let r = settle (ruleOf ρ) now (limit s) s in
-    record { number = 0; system = r .system; policy = ρ; moves = r .moves }
+    record { number = told Done; system = r .system; policy = ρ; moves = r .moves }
 
 unfoldable pub advance : System → Scheduler → ℕ → Advance
 advance s π now =

@@ -1,64 +1,30 @@
 -- Where no product is held, whoever is dispatched has the least service over weight, and whoever is preempted the most; each is
 -- the earliest of those that have it. Assumes nothing.
-use Prim.Native.Nat.{ℕ, _*_, _^_, _≤_, _<_}
-use mathlib.Core.Bool.{true, false}
-use mathlib.Core.Path.{_≡_, refl, sym, _∙_}
-use native.Mathlib.Nat.{le-refl}
+use Prim.Native.Nat.{ℕ, zero, suc, _*_, _^_, _≤_, _<_}
+use mathlib.Core.Bool.{true}
+use mathlib.Core.Logic.{_≢_}
+use mathlib.Core.Path.{_≡_, refl}
 use native.Mathlib.Omega.{arith}
-use lib.Dec.{ltb}
-use borrow.Author.Tests.{ltb-true, ltb-false, lt-ltb, le-ltb}
-use Rattle.service.specs.Laws.{deserving-exact}
+use lib.Dec.{lit<, lit≤}
+use Rattle.service.specs.Service.{value, limbs, held}
+use Rattle.system.specs.declared.RunState.the-variants.{Runnable}
 use Rattle.system.specs.declared.System.{System}
+use Rattle.system.specs.declared.VirtualCpu.{VirtualCpu}
+use Rattle.system.specs.Reads.{vcpuAt, occupantAt}
+use Rattle.system.specs.Records.{inFlight}
+use Rattle.system.specs.Shape.{fresh}
+use Rattle.system.specs.Slots.{Present}
+use Rattle.system.specs.Writes.{putVcpu}
 use Rattle.sched.specs.CanRun.{CanRun}
 use Rattle.moves.specs.declared.Choice.the-variants.{Run, Preempt}
-use Rattle.scan.specs.Scan.{Ranks}
 use Rattle.policy.specs.declared.Scheduler.{Scheduler}
-use Rattle.policy.specs.Standing.{weightAt, serviceAt}
-use Rattle.rules.specs.Rules.{beats}
+use Rattle.policy.specs.Accounts.{accountAt, accountOf, putAccount, freshPolicy}
+use Rattle.policy.specs.Standing.{weightAt, serviceBy, serviceAt, deserves}
+use Rattle.policy.specs.Exact.{Unheld, before, not-before, unheld-ranks}
 use Rattle.rules.specs.Choices.{choice}
 use Rattle.rules.specs.ChoiceLaws.{CanPreempt, Rival, Placeable, Preemptible, choice-run, choice-preempt, choice-beaten}
 use Rattle.rules.specs.ChoiceLaws.{choice-least, choice-earliest, choice-worst, choice-worst-earliest}
 use Rattle.advance.specs.ServiceRule.{ruleOf}
-use Rattle.service.specs.Fractions.{before-trans, after-trans}
-
--- no product that ranks two of those is held
-pub record Unheld (s : System) (π : Scheduler) (now : ℕ) (P : ℕ → Type 0) : Type 0 where
-  pub products : (i j : ℕ) → P i → P j → serviceAt s π now i * weightAt π j < 2 ^ 128
-
-pub weight-pos : (π : Scheduler) (i : ℕ) → 0 < weightAt π i
-weight-pos π i = omega arith
-
-module _ {s : System} {π : Scheduler} {now : ℕ} {P : ℕ → Type 0} (U : Unheld s π now P) where
-  S : ℕ → ℕ
-  S = serviceAt s π now
-
-  w : ℕ → ℕ
-  w = weightAt π
-
-  exact : (i j : ℕ) → P i → P j → beats (ruleOf π) s now i j ≡ ltb (serviceAt s π now i * weightAt π j) (serviceAt s π now j * weightAt π i)
-  exact i j l m =
-      deserving-exact (serviceAt s π now i) (weightAt π i) (serviceAt s π now j) (weightAt π j) (U .products i j l m) (U .products j i m l)
-
-  pub before : (i j : ℕ) → P i → P j → beats (ruleOf π) s now i j ≡ true
-      → serviceAt s π now i * weightAt π j < serviceAt s π now j * weightAt π i
-  before i j l m e = ltb-true _ _ (sym (exact i j l m) ∙ e)
-
-  pub not-before : (i j : ℕ) → P i → P j → beats (ruleOf π) s now i j ≡ false
-      → serviceAt s π now j * weightAt π i ≤ serviceAt s π now i * weightAt π j
-  not-before i j l m e = ltb-false _ _ (sym (exact i j l m) ∙ e)
-
-  pub unheld-ranks : Ranks P (beats (ruleOf π) s now)
-  unfolding S w
-  unheld-ranks =
-      record {
-        irrefl = λ i l. exact i i l l ∙ le-ltb (S i * w i) (S i * w i) (le-refl _);
-        trans = λ i j k a b c e f.
-            exact i k a c
-            ∙ lt-ltb _ _ (before-trans (S i) (w i) (S j) (w j) (S k) (w k) (weight-pos π k) (before i j a b e) (before j k b c f));
-        weak = λ i j k a b c e f.
-            exact i k a c
-            ∙ le-ltb _ _ (after-trans (S i) (w i) (S j) (w j) (S k) (w k) (weight-pos π j) (not-before i j a b e) (not-before j k b c f));
-      }
 
 module _ (s : System) (π : Scheduler) (now : ℕ) (U : Unheld s π now (Placeable s (ruleOf π) now)) (i p j q : ℕ)
     (e : choice s (ruleOf π) now ≡ Run i p) (c : CanRun s j q) where
@@ -70,10 +36,12 @@ module _ (s : System) (π : Scheduler) (now : ℕ) (U : Unheld s π now (Placeab
 
   -- whoever else could be dispatched has no less
   pub run-least : serviceAt s π now i * weightAt π j ≤ serviceAt s π now j * weightAt π i
+  unfolding deserves
   run-least = not-before U j i other this (choice-least s (ruleOf π) now (unheld-ranks U) i p j q e c refl)
 
   -- and more, if it comes earlier
   pub run-earliest : j < i → serviceAt s π now i * weightAt π j < serviceAt s π now j * weightAt π i
+  unfolding deserves
   run-earliest l = before U i j this other (choice-earliest s (ruleOf π) now (unheld-ranks U) i p j q e c refl l)
 
 module _ (s : System) (π : Scheduler) (now : ℕ) (U : Unheld s π now (Preemptible s (ruleOf π) now)) (i p j q k : ℕ)
@@ -88,8 +56,51 @@ module _ (s : System) (π : Scheduler) (now : ℕ) (U : Unheld s π now (Preempt
 
   -- whoever else could be preempted has no more
   pub preempt-most : serviceAt s π now j * weightAt π i ≤ serviceAt s π now i * weightAt π j
+  unfolding deserves
   preempt-most = not-before U i j victim spared (choice-worst s (ruleOf π) now (unheld-ranks U) i p j q k e c r)
 
   -- and less, if it comes earlier
   pub preempt-earliest : j < i → serviceAt s π now j * weightAt π i < serviceAt s π now i * weightAt π j
+  unfolding deserves
   preempt-earliest l = before U j i spared victim (choice-worst-earliest s (ruleOf π) now (unheld-ranks U) i p j q k e c r l)
+
+-- ---- an example: two wait for one pCPU, with services 2^100 and 1 at weights 2^30 and 1
+
+abbrev waiting : VirtualCpu
+waiting = record { state = Runnable; runtime = 0; «dispatched_at» = 0; affinity = 1 }
+
+abbrev two : System
+two = putVcpu (putVcpu (fresh 1 2 1) 0 waiting) 1 waiting
+
+abbrev apart : Scheduler
+apart =
+    putAccount (putAccount (freshPolicy 1 2 10) 0 0 (record { weight = 2 ^ 30; offset = held (2 ^ 100); «was_schedulable» = true })) 0 1
+    (record { weight = 1; offset = held 1; «was_schedulable» = true })
+
+-- either could be dispatched
+pub two-can : (i : ℕ) → i < 2 → CanRun two i 0
+unfolding vcpuAt occupantAt fresh putVcpu
+two-can zero l =
+    record { present = record { domain = lit< tt; vcpu = lit< tt }; ready = refl; exists = lit< tt; free = refl; affine = refl }
+two-can (suc zero) l =
+    record { present = record { domain = lit< tt; vcpu = lit< tt }; ready = refl; exists = lit< tt; free = refl; affine = refl }
+two-can (suc (suc i)) l = absurd (omega arith)
+
+-- no product that ranks the two is held
+pub two-unheld : Unheld two apart 0 (Placeable two (ruleOf apart) 0)
+unfolding value limbs held inFlight vcpuAt fresh putVcpu accountAt accountOf putAccount freshPolicy serviceBy
+two-unheld = record { products = λ i j n a b. go i j n (a .can .present) (b .can .present) }
+  where
+    go : (i j : ℕ) → i ≢ j → Present two i → Present two j → serviceAt two apart 0 i * weightAt apart j < 2 ^ 128
+    go zero zero n a b = absurd (n refl)
+    go zero (suc zero) n a b = lit< tt
+    go (suc zero) zero n a b = lit< tt
+    go (suc zero) (suc zero) n a b = absurd (n refl)
+    go zero (suc (suc j)) n a b = absurd (omega (arith, b .domain, b .vcpu))
+    go (suc zero) (suc (suc j)) n a b = absurd (omega (arith, b .domain, b .vcpu))
+    go (suc (suc i)) j n a b = absurd (omega (arith, a .domain, a .vcpu))
+
+-- though the first one's own would be
+pub two-own : 2 ^ 128 ≤ serviceAt two apart 0 0 * weightAt apart 0
+unfolding value limbs held inFlight vcpuAt fresh putVcpu accountAt accountOf putAccount freshPolicy serviceBy
+two-own = lit≤ tt

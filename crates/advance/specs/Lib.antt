@@ -1,5 +1,9 @@
 pub mod ServiceRule
 pub mod Advance
 pub mod Outcomes
+pub mod Answered
+pub mod Enacting
 pub mod Least
 pub mod Internal
+pub mod Computing
+pub mod Rows

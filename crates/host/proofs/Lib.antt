@@ -1,1 +1,3 @@
 mod NewHost
+mod Snapshots
+mod WakeEdges

@@ -1,26 +1,7 @@
 -- The definitions by which a step of a host computes, said once: to unfold `computing` is to unfold each of them.
-use Rattle.scan.specs.Scan.{scan}
-use Rattle.masks.specs.Masks.{first}
-use Rattle.service.specs.Service.{value, limbs, held, moreDeserving}
-use Rattle.system.specs.Records.{inFlight}
-use Rattle.system.specs.Reads.{vcpuAt, occupantAt}
-use Rattle.system.specs.Shape.{fresh}
-use Rattle.system.specs.Writes.{putVcpu, putOccupant}
-use Rattle.verdict.specs.Violations.{slotViolation, pcpuViolation, earliest, firstViolation, invariantsHold}
-use Rattle.changes.specs.Records.{dispatched, left}
-use Rattle.sched.specs.Steps.{applied, requested, offlineFirst, offlineAll}
-use Rattle.moves.specs.Decide.{decide, chosen, victim, placement, placeable, beaten, loses}
-use Rattle.rules.specs.Choices.{standings, choice}
-use Rattle.rules.specs.Settle.{enacted, settle}
-use Rattle.policy.specs.Accounts.{accountAt, accountOf, putAccount, freshPolicy, setWeight, setWakeBoost}
-use Rattle.policy.specs.Standing.{serviceBy, deserves}
-use Rattle.policy.specs.Accounting.{floor, renewed, renewFirst, accounted}
-use Rattle.advance.specs.Advance.{advance}
+use Rattle.advance.specs.Computing as below
 use Rattle.host.specs.Step.{step, hostAfter}
 
 unfoldable pub computing : Type 0
-unfolding scan first value limbs held moreDeserving inFlight vcpuAt occupantAt fresh putVcpu putOccupant slotViolation pcpuViolation
-    earliest firstViolation invariantsHold dispatched left applied requested offlineFirst offlineAll decide chosen victim placement
-    placeable beaten loses standings choice enacted settle accountAt accountOf putAccount freshPolicy setWeight setWakeBoost serviceBy
-    deserves floor renewed renewFirst accounted advance step hostAfter
+unfolding below.computing step hostAfter
 computing = Unit {0}

@@ -30,7 +30,7 @@ systemHands π r = record { number = r .number; host = record { system = r .syst
 
 -- what the policy hands back, which refuses nothing, beside a system
 abbrev pub policyHands : System → Scheduler → HostOutcome
-policyHands s π = record { number = 0; host = record { system = s; scheduler = π }; count = 0 }
+policyHands s π = record { number = told Done; host = record { system = s; scheduler = π }; count = 0 }
 
 -- what an advance hands back
 abbrev pub advanceHands : AdvanceOutcome → HostOutcome

@@ -1,7 +1,8 @@
 -- A host, its calls, and what one call does.
 use Prim.Native.Nat.{ℕ, _≤_}
 use mathlib.Core.List.{List, [], _∷_}
-use Rattle.system.specs.Answers.{SystemOutcome}
+use Rattle.system.specs.declared.Answer.the-variants.{Done}
+use Rattle.system.specs.Answers.{told, SystemOutcome}
 use Rattle.system.specs.Shape.{fresh}
 use Rattle.sched.specs.Steps as sched
 use Rattle.moves.specs.declared.Choice.{Choice}
@@ -22,7 +23,7 @@ abbrev pub bySystem : Host → SystemOutcome → Step
 bySystem h r = record { number = r .number; host = record { system = r .system; scheduler = h .scheduler }; moves = [] }
 
 abbrev pub byPolicy : Host → Scheduler → Step
-byPolicy h π = record { number = 0; host = record { system = h .system; scheduler = π }; moves = [] }
+byPolicy h π = record { number = told Done; host = record { system = h .system; scheduler = π }; moves = [] }
 
 abbrev pub byAdvance : policy.Advance → Step
 byAdvance r = record { number = r .number; host = record { system = r .system; scheduler = r .policy }; moves = r .moves }

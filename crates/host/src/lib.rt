@@ -4,6 +4,7 @@ ghost use mathlib.Core.Path.{_≡_};
 ghost use Rattle.system.specs.Answers.{systemOutcome};
 ghost use Rattle.advance.specs.Outcomes.{advanceOutcome};
 ghost use Rattle.host.specs.Step.{step};
+ghost use Rattle.host.specs.Typed.{Typed};
 ghost use Rattle.host.specs.Outcomes.{hostOutcome, stepCounted, systemHands, policyHands, advanceHands, builtHost};
 use advance::Advanced;
 use policy::Adjusted;
@@ -156,9 +157,10 @@ impl Host {
     }
 }
 
-/// One call.
+/// One call. Whatever call it is handed fits its types.
 pub fn step(h: Host, call: Call) -> Outcome
     ensures { λ r. ⌜ hostOutcome r ≡ stepCounted (step h call) ⌝ }
+    ensures { λ _. ⌜ Typed call ⌝ }
 {
     let s = h.system;
     let p = h.scheduler;

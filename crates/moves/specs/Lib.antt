@@ -3,3 +3,4 @@ pub mod DecideLaws
 pub mod Unique
 pub mod Table
 pub mod Internal
+pub mod Rows

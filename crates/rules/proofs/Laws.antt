@@ -6,3 +6,5 @@ pub use Rattle.rules.proofs.OneMove.{run-enacted, run-wrote, run-keeps,
 -- an idle pCPU that its mask admits
 pub use Rattle.rules.proofs.Traces.{run, preempt, Trace, rest, settle-trace, trace-keeps, trace-few, trace-two, advance-rests}
 pub use Rattle.rules.proofs.Traces.{rest-quiet}
+-- under any rule: rest at the end or as many moves as may be made, nobody joins the pool or departs from it
+pub use Rattle.rules.proofs.Traces.{settle-ends, settle-most, trace-pooled}

@@ -1,8 +1,9 @@
 -- Under any rule whose slice is at least 1, settling makes at most two moves a pCPU and ends where no move is left, so that nobody
 -- who is not barred waits beside an idle pCPU that its mask admits. Assumes nothing.
 use Prim.Native.Nat.{ℕ, zero, suc, _+_, _*_, _≤_, _<_}
-use mathlib.Core.Path.{_≡_, refl, sym}
+use mathlib.Core.Path.{_≡_, refl, sym, _∙_, ap}
 use mathlib.Core.Bool.{cond, false}
+use mathlib.Core.Logic.{_⊎_, inl, inr}
 use mathlib.Core.List.{List, [], _∷_}
 use native.Mathlib.Omega.{arith}
 use native.Mathlib.Decide.{ℕ-discrete}
@@ -10,21 +11,25 @@ use lib.Dec.{eqb}
 use lib.ListN.{length}
 use borrow.Author.Tests.{eq-eqb, ne-eqb}
 use Rattle.scan.specs.Booleans.{zero-one}
+use Rattle.system.specs.declared.VirtualCpu.{VirtualCpu}
+use Rattle.system.specs.declared.Occupant.{Occupant}
 use Rattle.system.specs.declared.System.{System}
-use Rattle.system.specs.Reads.{occupantAt}
-use Rattle.system.specs.Writes.{Tables}
+use Rattle.system.specs.Reads.{vcpuAt, occupantAt, pooled}
+use Rattle.system.specs.Writes.{Tables, Wrote}
 use Rattle.system.specs.Slots.{pcpus}
+use Rattle.system.specs.States.{schedulable}
 use Rattle.verdict.specs.Sound.{Sound}
+use Rattle.changes.specs.Records.{dispatched, left}
 use Rattle.sched.specs.CanRun.{CanRun}
 use Rattle.sched.specs.Invariants.{Keeps}
 use Rattle.sched.proofs.Laws.{unchanged, and-then}
 use Rattle.moves.specs.declared.Choice.{Choice}
 use Rattle.moves.specs.declared.Choice.the-variants.{Run, Preempt, Rest}
-use Rattle.rules.specs.Settle.{enacted, goOn, settle, movesOn, limit}
+use Rattle.rules.specs.Settle.{enacted, Settled, withMove, goOn, settle, movesOn, limit}
 use Rattle.rules.specs.Rules.{Rule}
 use Rattle.rules.specs.Choices.{choice}
 use Rattle.rules.specs.ChoiceLaws.{CanPreempt, choice-run, choice-complete, choice-preempt}
-use Rattle.rules.proofs.OneMove.{run-keeps, preempt-keeps}
+use Rattle.rules.proofs.OneMove.{run-wrote, run-keeps, preempt-wrote, preempt-keeps}
 use Rattle.rules.proofs.Potential.{potential, potentials, potential-le, potentials-le, Drops, drops-sum, run-drops, preempt-drops}
 
 -- Moves made one after another, each the choice where it is made and each one that may be made.
@@ -95,6 +100,58 @@ module _ {ρ : Rule} {now : ℕ} where
   pub trace-two : {s t : System} {cs : List Choice} (q : ℕ) → q < pcpus s → Trace ρ now s cs t → 1 ≤ ρ .slice → Tables s → Sound s → movesOn q cs ≤ 2
   unfolding potential
   trace-two {s} q l r h t S = omega (arith, trace-potential-on q l r h t S, potential-le s ρ now (occupantAt s q))
+
+-- ---- moves change nobody's membership of the pool
+
+wrote-pooled : {s s′ : System} {i p : ℕ} {v : VirtualCpu} {o : Occupant} → Wrote s s′ i v p o → schedulable (v .state) ≡ pooled s i
+    → (j : ℕ) → pooled s′ j ≡ pooled s j
+wrote-pooled {s} {s′} {i} {p} {v} k h j = go (ℕ-discrete j i)
+  where
+    go : Dec (j ≡ i) → pooled s′ j ≡ pooled s j
+    go (yes e) = ap (λ (x : VirtualCpu). schedulable (x .state)) (ap (vcpuAt s′) e ∙ k .here) ∙ (h ∙ ap (pooled s) (sym e))
+    go (no n) = ap (λ (x : VirtualCpu). schedulable (x .state)) (k .there j n)
+
+pub trace-pooled : {ρ : Rule} {now : ℕ} {s t : System} {cs : List Choice} → Trace ρ now s cs t → Tables s → Sound s → (j : ℕ) → pooled t j ≡ pooled s j
+unfolding dispatched left
+trace-pooled rest tb S j = refl
+trace-pooled {now = now} (run {s} {i = i} {p = p} e c r) tb S j =
+    let m = run-keeps s now i p tb S c in
+    trace-pooled r (m .shape .tables tb) (m .sound) j ∙ wrote-pooled (run-wrote s now i p tb c) (sym (ap schedulable (c .ready))) j
+trace-pooled {now = now} (preempt {s} {i = i} {p = p} e c r) tb S j =
+    let m = preempt-keeps s now i p tb S (c .present) in
+    trace-pooled r (m .shape .tables tb) (m .sound) j ∙ wrote-pooled (preempt-wrote s now i p tb S (c .present) (c .on)) (sym (ap schedulable (c .on))) j
+
+-- ---- where settling ends
+
+-- with any slice: at rest, or with as many moves made as may be; never more
+pub settle-ends : (ρ : Rule) (now k : ℕ) (s : System)
+    → (choice ((settle ρ now k s) .system) ρ now ≡ Rest) ⊎ (length ((settle ρ now k s) .moves) ≡ k)
+unfolding settle
+settle-ends ρ now zero s = inr refl
+settle-ends ρ now (suc k) s = go (choice s ρ now) refl (λ t. settle-ends ρ now k t)
+  where
+    Ends : ℕ → Settled → Type 0
+    Ends n r = (choice (r .system) ρ now ≡ Rest) ⊎ (length (r .moves) ≡ n)
+
+    one-more : (r : Settled) (c : Choice) → Ends k r → Ends (suc k) (withMove c r)
+    one-more r c (inl e) = inl e
+    one-more r c (inr e) = inr (ap suc e)
+
+    go : (c : Choice) → choice s ρ now ≡ c → ((t : System) → Ends k (settle ρ now k t)) → Ends (suc k) (goOn (λ t. settle ρ now k t) s now c)
+    go (Run i p) e ih = let t = (enacted s now (Run i p)) .system in one-more (settle ρ now k t) (Run i p) (ih t)
+    go (Preempt i p) e ih = let t = (enacted s now (Preempt i p)) .system in one-more (settle ρ now k t) (Preempt i p) (ih t)
+    go Rest e ih = inl e
+
+pub settle-most : (ρ : Rule) (now k : ℕ) (s : System) → length ((settle ρ now k s) .moves) ≤ k
+unfolding settle
+settle-most ρ now zero s = omega arith
+settle-most ρ now (suc k) s = go (choice s ρ now) (λ t. settle-most ρ now k t)
+  where
+    go : (c : Choice) → ((t : System) → length ((settle ρ now k t) .moves) ≤ k)
+        → length ((goOn (λ t. settle ρ now k t) s now c) .moves) ≤ suc k
+    go (Run i p) ih = omega (arith, ih ((enacted s now (Run i p)) .system))
+    go (Preempt i p) ih = omega (arith, ih ((enacted s now (Preempt i p)) .system))
+    go Rest ih = omega arith
 
 -- with more fuel than potential, settling ends at rest
 settle-rests : (ρ : Rule) (now k : ℕ) (s : System) → 1 ≤ ρ .slice → Tables s → Sound s → potentials s ρ now < k

@@ -16,8 +16,8 @@ use Rattle.sched.specs.CanRun.{CanRun}
 use Rattle.moves.specs.declared.Choice.the-variants.{Run, Preempt, Rest}
 use Rattle.scan.specs.Scan.{Ranks}
 use Rattle.moves.specs.Decide.{placement}
-use Rattle.moves.specs.DecideLaws.{Fits, Beats, IsRun, run-fits, run-found, preempt-beaten, rest-unbeaten, pick-least, pick-earliest}
-use Rattle.moves.specs.DecideLaws.{victim-worst, victim-earliest}
+use Rattle.moves.specs.DecideLaws.{Fits, Beats, IsRun, run-fits, run-placed, run-found, preempt-beaten, rest-unbeaten}
+use Rattle.moves.specs.DecideLaws.{placement-lowest, pick-least, pick-earliest, victim-worst, victim-earliest}
 use Rattle.rules.specs.Rules.{Rule, beats}
 use Rattle.rules.specs.Choices.{isExpired, standings, choice}
 
@@ -140,6 +140,14 @@ module _ (s : System) (ρ : Rule) (now : ℕ) where
   pub choice-complete : (i p : ℕ) → CanRun s i p → ρ .barred s now i ≡ false → IsRun (choice s ρ now)
   unfolding choice
   choice-complete i p c u = run-found (standings s ρ now) (slots s) i p (present-is (c .present) .0) (can-fits i p c u)
+
+  -- Onto which pCPU: the lowest-numbered that it may be dispatched onto. This law stands apart: no other says which pCPU it is, and all
+  -- others hold of any that it may be dispatched onto.
+  pub choice-lowest : (i p q : ℕ) → choice s ρ now ≡ Run i p → CanRun s i q → p ≤ q
+  unfolding choice
+  choice-lowest i p q e c =
+      subst (λ (k : ℕ). k ≤ q) (run-placed (standings s ρ now) (slots s) i p e)
+      (placement-lowest (standings s ρ now) i q (can-fits i q c (choice-unbarred i p e)))
 
   -- a Preempt is of a runner past its slice
   pub choice-preempt : (i p : ℕ) → choice s ρ now ≡ Preempt i p → CanPreempt s ρ now i p

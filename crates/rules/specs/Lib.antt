@@ -3,3 +3,4 @@ pub mod Choices
 pub mod ChoiceLaws
 pub mod Settle
 pub mod Steady
+pub mod Rows
