@@ -22,7 +22,7 @@ use Rattle.changes.specs.declared.Change.{Change}
 use Rattle.changes.specs.declared.Change.the-variants.{Refuse, Write, Enter, Leave}
 use Rattle.sched.specs.Steps.{changeOf, applied, requested, offlineFirst, offlineAll}
 use Rattle.sched.proofs.Laws.{NotRunning, off-nr, ready-nr, blocked-nr, requested-case, offline-all-case, first-keeps}
-use Rattle.changes.specs.Changes.{admitted, blocked, woken, offlined}
+use Rattle.changes.specs.Changes.{admitted, blocked, woken, masked, offlined}
 use Rattle.demand3.proofs.ExactRanking.{rawService}
 use Rattle.demand3.proofs.Lag.{Pool, Lag, raw-waiting}
 
@@ -94,6 +94,15 @@ module _ {full : ℕ} {v : VirtualCpu} (n : New full v) where
   offlined-stays-unrun now (Running p) e = still e
   offlined-stays-unrun now Blocked e = filled Offline off-nr
 
+  refilled : New full (record { state = v .state; runtime = v .runtime; «dispatched_at» = v .«dispatched_at»; affinity = full })
+  refilled = record { rests = n .rests; none = n .none; mask = refl }
+
+  masked-stays-unrun : (st : RunState) → v .state ≡ st → StaysUnrun full (masked v full st)
+  masked-stays-unrun Offline e = refilled
+  masked-stays-unrun Runnable e = refilled
+  masked-stays-unrun (Running p) e = still e
+  masked-stays-unrun Blocked e = refilled
+
 module _ (s : System) (t : Tables s) (S : Sound s) (Y : Unrun s) where
   request-unrun : (d v : ℕ) (q : Request) → (Present s (slot d v) → StaysUnrun (fullAffinity s) (changeOf s (slot d v) q))
       → Unrun ((requested s d v q) .system)
@@ -110,6 +119,11 @@ module _ (s : System) (t : Tables s) (S : Sound s) (Y : Unrun s) where
 
   pub offline-unrun : (d v now : ℕ) → Unrun ((requested s d v (Request.Offline now)) .system)
   offline-unrun d v now = request-unrun d v (Request.Offline now) (λ h. offlined-stays-unrun (Y .new (slot d v) h) now _ refl)
+
+  -- a mask that is stored full
+  pub mask-unrun : (d v m : ℕ) → m ≡ fullAffinity s → Unrun ((requested s d v (Request.SetAffinity m)) .system)
+  mask-unrun d v m e =
+      rw e (request-unrun d v (Request.SetAffinity (fullAffinity s)) (λ h. masked-stays-unrun (Y .new (slot d v) h) _ refl))
 
   first-unrun : (d now k : ℕ) → d < domains s → k ≤ vcpus s → Unrun (offlineFirst s d now k)
   unfolding offlineFirst

@@ -1,5 +1,5 @@
 -- From what is kept along a list to what demand 3 says of it. Assumes nothing.
-use Prim.Native.Nat.{ℕ, _+_, _-_, _*_, _/_, _%_, _≤_, _<_}
+use Prim.Native.Nat.{ℕ, _+_, _-_, _*_, _/_, _%_, _^_, _≤_, _<_}
 use mathlib.Core.Bool.{Bool, true, false, cond}
 use mathlib.Core.Path.{_≡_, refl, sym, _∙_, ap, ap₂, subst}
 use mathlib.Core.List.{List, [], _∷_, _++_}
@@ -23,13 +23,15 @@ use Rattle.scan.specs.Scan.{nobody}
 use Rattle.policy.specs.declared.Account.{Account}
 use Rattle.policy.specs.Accounts.{blankAccount, plain, covers, accountAt, accountOf, usedWeight, freshPolicy}
 use Rattle.policy.specs.Accounting.{accounted}
-use Rattle.policy.specs.Standing.{weightAt}
+use Rattle.policy.specs.Standing.{weightAt, serviceAt}
 use Rattle.policy.proofs.Laws.{covers-below}
 use Rattle.sched.proofs.Laws.{off-nr, fresh-tables, fresh-vcpu, fresh-sound}
-use Rattle.demand3.proofs.ExactRanking.{rawService}
+use Rattle.demand3.proofs.ExactRanking.{rawService, service-raw}
 use Rattle.demand3.proofs.Lag.{Lag, raw-waiting}
+use Rattle.demand3.proofs.LagMoves.{plain-level}
 use Rattle.rules.specs.Settle.{movesOn}
 use Rattle.rules.proofs.Laws.{trace-few, trace-two, rest-quiet}
+use Rattle.advance.proofs.Laws.{accounted-slice}
 use Rattle.host.specs.declared.Host.{Host}
 use Rattle.host.specs.declared.Call.{Call}
 use Rattle.host.specs.Step.{step, hostAfter, freshHost, Sliced}
@@ -37,7 +39,8 @@ use Rattle.demand3.specs.Book.{Book, Shape, blankBook, holder, occupantB
 use Rattle.demand3.specs.Agreement.{PresentIn, Says, Agrees}
 use Rattle.demand3.proofs.Holders.{shaped-present, agrees}
 use Rattle.demand3.specs.Lists.{bookAfter, openPart, bookService}
-use Rattle.demand3.proofs.EveryCall.{Kept, step-goes, advance-traced, advance-rests-here, accounted-slice, step-slice}
+use Rattle.demand3.proofs.EveryCall.{Kept, step-goes, advance-traced, advance-rests-here, step-slice}
+use Rattle.demand3.proofs.WeightCalls.{Weighs}
 use Rattle.demand3.proofs.BeforeFirstAdvance.{New}
 use Rattle.demand3.proofs.Pool.{Pooling}
 use Rattle.demand3.proofs.PoolLists.{Prepared}
@@ -69,15 +72,27 @@ module _ (d v p e u q : ℕ) (hd : d ≤ 16) (hv : v ≤ 8) (hp : p ≤ 64) wher
             };
       }
 
-  policy-at : (i : ℕ) → accountOf (freshPolicy e u q) (i / 8) (i % 8) ≡ plain
+  policy-at : (d v : ℕ) → accountOf (freshPolicy e u q) d v ≡ plain
   unfolding accountOf accountAt freshPolicy
-  policy-at i = go (covers (freshPolicy e u q) (i / 8) (i % 8)) refl
+  policy-at d v = go (covers (freshPolicy e u q) d v) refl
     where
-      go : (b : Bool) → covers (freshPolicy e u q) (i / 8) (i % 8) ≡ b → cond b (getD (replicate 128 plain) (slot (i / 8) (i % 8)) blankAccount) plain ≡ plain
+      go : (b : Bool) → covers (freshPolicy e u q) d v ≡ b → cond b (getD (replicate 128 plain) (slot d v) blankAccount) plain ≡ plain
       go true c =
-          let x = covers-below (freshPolicy e u q) (i / 8) (i % 8) c .0 in
-          getD-replicate 128 (slot (i / 8) (i % 8)) plain blankAccount (omega arith)
+          let x = covers-below (freshPolicy e u q) d v c in
+          let m = x .0 in
+          let n = x .1 in
+          getD-replicate 128 (slot d v) plain blankAccount (omega arith)
       go false c = refl
+
+  pub fresh-weighs : Weighs e u (λ d v. 1) (freshPolicy e u q)
+  unfolding freshPolicy
+  fresh-weighs =
+      record {
+        tabled = record { accounts = length-replicate 128 plain };
+        domains = refl;
+        vcpus = refl;
+        covered = λ d v c. ap usedWeight (policy-at d v);
+      }
 
   time-zero : (j : ℕ) → runtimeAt (fresh d v p) j ≡ 0
   unfolding fresh vcpuAt
@@ -97,12 +112,12 @@ module _ (d v p e u q : ℕ) (hd : d ≤ 16) (hv : v ≤ 8) (hp : p ≤ 64) wher
             };
         plain =
             record {
-              offsets = λ i. ap (λ (a : Account). value (a .offset)) (policy-at i);
-              weights = λ i. omega (arith, ap usedWeight (policy-at i));
+              offsets = λ i. ap (λ (a : Account). value (a .offset)) (policy-at (i / 8) (i % 8));
+              weights = λ i. omega (arith, ap usedWeight (policy-at (i / 8) (i % 8)));
             };
-        tabled = record { accounts = length-replicate 128 plain };
+        tabled = fresh-weighs .tabled;
         words = λ j. omega (arith, time-zero j);
-        unseen = λ i. ap (λ (a : Account). a .«was_schedulable») (policy-at i);
+        unseen = λ i. ap (λ (a : Account). a .«was_schedulable») (policy-at (i / 8) (i % 8));
       }
 
 -- ---- at every point
@@ -171,6 +186,11 @@ quiet {k} {b} {h} K now q i p x l e f g =
       affine = sym (ap (λ (m : ℕ). permits m p) (z .mask)) ∙ g;
     })
     refl
+
+-- where no offset is set and run times are words, the service that ranks is the book's, which nothing holds
+pub point-service : {k : Shape} {b : Book} {h : Host} {g t : ℕ} (r : ℕ) → Kept k b h → Pooling g t (h .system) (h .scheduler) → r < 2 ^ 64
+    → (i : ℕ) → PresentIn k i → serviceAt (h .system) (h .scheduler) r i ≡ bookService b r i
+point-service r K P l i x = service-raw (plain-level (P .plain) (P .words) l) i ∙ sym (service-same K r i (exists K x))
 
 pub after-slice : {k : Shape} (cs : List Call) (h : Host) (b : Book) → Kept k b h → (hostAfter h cs) .scheduler .quantum ≡ h .scheduler .quantum
 unfolding hostAfter

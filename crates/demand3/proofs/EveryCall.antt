@@ -11,7 +11,7 @@ use Rattle.changes.specs.declared.Request.{Request}
 use Rattle.system.specs.declared.System.{System}
 use Rattle.system.specs.Answers.{SystemOutcome}
 use Rattle.system.specs.Writes.{SameShape}
-use Rattle.system.specs.Slots.{pcpus, Present, slots}
+use Rattle.system.specs.Slots.{pcpus, Present}
 use Rattle.system.specs.Reads.{stateAt}
 use Rattle.verdict.specs.Sound.{sound-iff}
 use Rattle.sched.specs.CanRun.{CanRun}
@@ -23,13 +23,14 @@ use Rattle.moves.specs.declared.Choice.the-variants.{Run, Preempt, Rest}
 use Rattle.policy.specs.declared.Scheduler.{Scheduler}
 use Rattle.policy.specs.Accounts.{setWeight, setWakeBoost}
 use Rattle.policy.specs.Accounting.{accounted}
-use Rattle.policy.proofs.Laws.{put-same, renew-same}
+use Rattle.policy.proofs.Laws.{put-same}
 use Rattle.advance.specs.Advance as policy
 use Rattle.rules.specs.Rules.{Rule}
 use Rattle.rules.specs.Choices.{choice}
 use Rattle.rules.specs.Settle.{limit}
 use Rattle.rules.proofs.Laws as enacts
 use Rattle.advance.specs.ServiceRule.{ruleOf}
+use Rattle.advance.proofs.Laws.{accounted-slice}
 use Rattle.rules.specs.Settle.{enacted}
 use Rattle.rules.proofs.Laws.{Trace, rest, run, preempt, settle-trace, advance-rests}
 use Rattle.host.specs.declared.Host.{Host}
@@ -89,10 +90,6 @@ pub record Advanced (h : Host) (now : ℕ) (r : Step) : Type 0 where
   pub told : r .number ≡ 0
   pub policy : r .host .scheduler ≡ accounted (h .system) (h .scheduler) now
   pub trace : Trace (ruleOf (accounted (h .system) (h .scheduler) now)) now (h .system) (r .moves) (r .host .system)
-
-pub accounted-slice : (s : System) (π : Scheduler) (now : ℕ) → (accounted s π now) .quantum ≡ π .quantum
-unfolding accounted
-accounted-slice s π now = renew-same s π now (slots s) .quantum
 
 pub advance-traced : {k : Shape} {b : Book} {h : Host} (now : ℕ) → Kept k b h → Advanced h now (step h (Call.Advance now))
 unfolding step policy.advance

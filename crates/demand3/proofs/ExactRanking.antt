@@ -13,9 +13,9 @@ use Rattle.system.specs.Reads.{vcpuAt}
 use Rattle.scan.specs.Scan.{Ranks}
 use Rattle.policy.specs.declared.Scheduler.{Scheduler}
 use Rattle.policy.specs.Accounts.{offsetOf}
-use Rattle.policy.specs.Standing.{weightAt, serviceBy, serviceAt}
+use Rattle.policy.specs.Standing.{weightAt, serviceBy, serviceAt, deserves}
 use Rattle.rules.specs.Rules.{beats}
-use Rattle.advance.specs.Least.{unheld-ranks}
+use Rattle.policy.specs.Exact.{unheld-ranks}
 use Rattle.advance.specs.ServiceRule.{ruleOf}
 
 -- service without the offset
@@ -29,7 +29,7 @@ pub record Level (s : System) (π : Scheduler) (now : ℕ) : Type 0 where
   pub services : (i : ℕ) → rawService s now i < 2 ^ 96
 
 module _ {s : System} {π : Scheduler} {now : ℕ} (L : Level s π now) where
-  service-raw : (i : ℕ) → serviceAt s π now i ≡ rawService s now i
+  pub service-raw : (i : ℕ) → serviceAt s π now i ≡ rawService s now i
   unfolding serviceBy
   service-raw i =
       ap (λ (o : ℕ). min (rawService s now i + o) (2 ^ 128 - 1)) (L .offsets i)
@@ -48,9 +48,10 @@ module _ {s : System} {π : Scheduler} {now : ℕ} (L : Level s π now) where
   beats-not i j e = ltb-false _ _ (sym (beats-exact i j) ∙ e)
 
   pub level-ranks : {P : ℕ → Type 0} → Ranks P (beats (ruleOf π) s now)
+  unfolding deserves
   level-ranks =
       unheld-ranks
       (record {
-        products = λ i j l m.
+        products = λ i j n l m.
             subst (λ (a : ℕ). a * weightAt π j < 2 ^ 128) (sym (service-raw i)) (product-below (rawService s now i) (weightAt π j) (L .services i) (L .weights j));
       })

@@ -1,7 +1,8 @@
 -- Who holds a pCPU follows from the lines of the book. Assumes nothing.
 use Prim.Native.Nat.{ℕ, _*_, _%_, _≤_, _<_}
-use mathlib.Core.Bool.{Bool, true, _&&_}
+use mathlib.Core.Bool.{Bool, true, not, _&&_}
 use mathlib.Core.Path.{_≡_, refl, sym, _∙_, ap}
+use native.Mathlib.Nat.{min-eq-left}
 use native.Mathlib.Omega.{arith}
 use lib.Dec.{ltb}
 use borrow.Author.Tests.{ltb-true, lt-ltb, eq-eqb}
@@ -10,11 +11,11 @@ use Rattle.system.specs.declared.RunState.the-variants.{Running}
 use Rattle.system.specs.declared.Occupant.{Occupant}
 use Rattle.system.specs.declared.Occupant.the-variants.{Idle, Vcpu}
 use Rattle.system.specs.declared.System.{System}
-use Rattle.system.specs.Reads.{vcpuAt, occupantAt}
-use Rattle.system.specs.Slots.{pcpus, slot, Present}
+use Rattle.system.specs.Reads.{vcpuAt, occupantAt, isIdle}
+use Rattle.system.specs.Slots.{domains, vcpus, pcpus, slot, Present}
 use Rattle.system.specs.States.{runsOn, runs-on}
 use Rattle.verdict.specs.Sound.{Sound}
-use Rattle.scan.specs.Scan.{Pick, nobody, at, scan, scan-sound, scan-complete, never}
+use Rattle.scan.specs.Scan.{Pick, nobody, at, some, scan, scan-sound, scan-complete, never}
 use Rattle.demand3.specs.Book.{Book, Shape, holder, occupantBy}
 use Rattle.demand3.specs.Agreement.{Says, PresentIn, Shaped, Agrees}
 
@@ -74,6 +75,22 @@ nobody-runs k b p i e x on =
     let r : runsOn p ((b i) .state) ≡ true = ap (runsOn p) on ∙ eq-eqb p p refl in
     scan-complete (λ j. ltb (j % 8) (k .vcpus) && runsOn p ((b j) .state)) never (k .domains * 8) i (omega (arith, x .domain))
     (rw (lt-ltb (i % 8) (k .vcpus) (x .vcpu), r)) e
+
+-- a pCPU that somebody holds by the book is not idle
+pub held-busy : (r : Pick) → not (isIdle (occupantBy r)) ≡ some r
+held-busy nobody = refl
+held-busy (at i) = refl
+
+-- the counts of a sound system are those of the shape
+module _ {k : Shape} {s : System} (h : Shaped k s) (S : Sound s) where
+  pub shaped-domains : domains s ≡ k .domains
+  shaped-domains = min-eq-left (S .domains) ∙ h .domains
+
+  pub shaped-vcpus : vcpus s ≡ k .vcpus
+  shaped-vcpus = min-eq-left (S .vcpus) ∙ h .vcpus
+
+  pub shaped-pcpus : pcpus s ≡ k .pcpus
+  shaped-pcpus = min-eq-left (S .pcpus) ∙ h .pcpus
 
 pub shaped-present : {k : Shape} {s : System} {i : ℕ} → Shaped k s → Sound s → PresentIn k i → Present s i
 shaped-present h S e =

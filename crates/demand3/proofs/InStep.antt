@@ -2,7 +2,6 @@
 use Prim.Native.Nat.{ℕ, zero, suc, _≤_, _<_}
 use mathlib.Core.Bool.{Bool, true, false, cond, not, true≢false, false≢true}
 use mathlib.Core.Path.{_≡_, refl, sym, _∙_, ap, subst}
-use native.Mathlib.Nat.{min-eq-left}
 use native.Mathlib.Omega.{arith}
 use lib.Dec.{ltb}
 use borrow.Author.Tests.{ltb-true}
@@ -20,12 +19,12 @@ use Rattle.verdict.specs.Violations.{invariantsHold}
 use Rattle.changes.specs.declared.Request.{Request}
 use Rattle.sched.specs.Steps.{refused, done, tested, made, requested, offlineFirst, offlineAll}
 use Rattle.sched.proofs.Laws.{made-legal, first-keeps}
-use Rattle.scan.specs.Scan.{Pick, nobody, at, some}
+use Rattle.scan.specs.Scan.{some}
 use Rattle.changes.specs.Changes.{changed, reaches}
-use Rattle.demand3.specs.Book.{Book, Shape, holder, occupantBy, Note, Entry, unwritten, entered, identified, offlineNote, offlineLines}
+use Rattle.demand3.specs.Book.{Book, Shape, holder, Note, Entry, unwritten, entered, identified, offlineNote, offlineLines}
 use Rattle.demand3.specs.Agreement.{Shaped}
 use Rattle.demand3.specs.Book.{unwritten}
-use Rattle.demand3.proofs.Holders.{Lines, holder-agrees}
+use Rattle.demand3.proofs.Holders.{Lines, holder-agrees, held-busy, shaped-domains, shaped-vcpus, shaped-pcpus}
 use Rattle.demand3.proofs.Notes.{Match, requestNote, request-match, Alike, legal-alike}
 
 -- a system in step with its book
@@ -47,17 +46,14 @@ module _ {k : Shape} {b : Book} {s : System} (K : InStep k b s) where
   told-alike : (a : Answer) (n : ℕ) → told a ≡ n → Alike (refused a s) (unwritten n b)
   told-alike a n e = record { number = e; lines = K .lines }
 
-  many : (s .«domain_count» ≤ 16) × (s .«vcpus_per_domain» ≤ 8) × (s .«pcpu_count» ≤ 64)
-  many = (K .sound .domains, K .sound .vcpus, K .sound .pcpus)
-
   same-domains : domains s ≡ k .domains
-  same-domains = min-eq-left (many .0) ∙ K .shaped .domains
+  same-domains = shaped-domains (K .shaped) (K .sound)
 
   same-vcpus : vcpus s ≡ k .vcpus
-  same-vcpus = min-eq-left (many .1) ∙ K .shaped .vcpus
+  same-vcpus = shaped-vcpus (K .shaped) (K .sound)
 
   same-pcpus : pcpus s ≡ k .pcpus
-  same-pcpus = min-eq-left (many .2) ∙ K .shaped .pcpus
+  same-pcpus = shaped-pcpus (K .shaped) (K .sound)
 
   -- a sound system passes the first test
   unguarded : (r : SystemOutcome) → tested (invariantsHold s) Unsound s r ≡ r
@@ -65,11 +61,7 @@ module _ {k : Shape} {b : Book} {s : System} (K : InStep k b s) where
 
   -- a pCPU that somebody runs on in the book is busy in the system
   busy-alike : (p : ℕ) → p < k .pcpus → some (holder k b p) ≡ not (isIdle (occupantAt s p))
-  busy-alike p l = sym (ap (λ (o : Occupant). not (isIdle o)) (holder-agrees k b s p (K .shaped) (K .sound) (K .lines) l) ∙ occupied (holder k b p))
-    where
-      occupied : (r : Pick) → not (isIdle (occupantBy r)) ≡ some r
-      occupied nobody = refl
-      occupied (at i) = refl
+  busy-alike p l = sym (ap (λ (o : Occupant). not (isIdle o)) (holder-agrees k b s p (K .shaped) (K .sound) (K .lines) l) ∙ held-busy (holder k b p))
 
   -- what the book notes of a request of d/v
   abbrev note : ℕ → ℕ → Request → Note

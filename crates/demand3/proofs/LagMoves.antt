@@ -5,33 +5,28 @@ use mathlib.Core.Path.{_≡_, refl, sym, _∙_, ap}
 use mathlib.Core.List.{List}
 use native.Mathlib.Omega.{arith}
 use native.Mathlib.Nat.{mul-le-mul-right}
-use native.Mathlib.Decide.{ℕ-discrete}
 use lib.Dec.{leb}
 use borrow.Author.Tests.{leb-true, leb-false}
 use Rattle.system.specs.declared.RunState.{RunState}
 use Rattle.system.specs.declared.RunState.the-variants.{Offline, Runnable, Running, Blocked}
 use Rattle.system.specs.declared.System.{System}
 use Rattle.system.specs.Records.{elapsed, flight, inFlight}
-use Rattle.system.specs.Reads.{vcpuAt, stateAt, runtimeAt, pooled}
-use Rattle.system.specs.declared.VirtualCpu.{VirtualCpu}
-use Rattle.system.specs.declared.Occupant.{Occupant}
-use Rattle.system.specs.Writes.{Tables, Wrote}
+use Rattle.system.specs.Reads.{vcpuAt, stateAt, runtimeAt}
+use Rattle.system.specs.Writes.{Tables}
 use Rattle.system.specs.Slots.{Present}
 use Rattle.system.specs.States.{schedulable}
 use Rattle.verdict.specs.Sound.{Sound}
-use Rattle.changes.specs.Records.{dispatched, left}
 use Rattle.sched.specs.CanRun.{CanRun}
 use Rattle.moves.specs.declared.Choice.{Choice}
 use Rattle.moves.specs.declared.Choice.the-variants.{Run, Preempt, Rest}
 use Rattle.policy.specs.declared.Scheduler.{Scheduler}
 use Rattle.rules.specs.Settle.{enacted}
-use Rattle.rules.specs.Rules.{Rule}
 use Rattle.policy.specs.Accounts.{offsetOf}
 use Rattle.policy.specs.Standing.{weightAt}
 use Rattle.rules.specs.Choices.{choice}
 use Rattle.rules.specs.ChoiceLaws.{CanPreempt, choice-least, choice-beaten, choice-unbeaten}
 use Rattle.rules.proofs.Laws.{run-wrote, run-keeps, preempt-wrote, preempt-keeps, Trace, rest, run, preempt}
-use Rattle.advance.specs.Least.{weight-pos}
+use Rattle.policy.specs.Exact.{weight-pos}
 use Rattle.demand3.proofs.ExactRanking.{rawService, Level, level-ranks, beats-before, beats-not}
 use Rattle.demand3.proofs.Lag.{Pool, waits, runs, Lag, raw-waiting, raw-running, on-lag, off-lag}
 use Rattle.advance.specs.ServiceRule.{ruleOf}
@@ -123,22 +118,3 @@ module _ (π : Scheduler) (P : Plain π) (lim : ℕ) where
       lag′ i j hi hj Runnable q h x = rw (still i q, still j x) (L .lag i j hi hj h x)
       lag′ i j hi hj (Running p) q h x = runner i j p hi hj q x (leb (π .quantum) (elapsed (vcpuAt s i) now)) refl
       lag′ i j hi hj Blocked q h x = absurd (false≢true (sym (ap schedulable q) ∙ h))
-
--- moves change nobody's membership of the pool
-wrote-pooled : {s s′ : System} {i p : ℕ} {v : VirtualCpu} {o : Occupant} → Wrote s s′ i v p o → schedulable (v .state) ≡ pooled s i
-    → (j : ℕ) → pooled s′ j ≡ pooled s j
-wrote-pooled {s} {s′} {i} {p} {v} k h j = go (ℕ-discrete j i)
-  where
-    go : Dec (j ≡ i) → pooled s′ j ≡ pooled s j
-    go (yes e) = ap (λ (x : VirtualCpu). schedulable (x .state)) (ap (vcpuAt s′) e ∙ k .here) ∙ (h ∙ ap (pooled s) (sym e))
-    go (no n) = ap (λ (x : VirtualCpu). schedulable (x .state)) (k .there j n)
-
-pub trace-pooled : {ρ : Rule} {now : ℕ} {s t : System} {cs : List Choice} → Trace ρ now s cs t → Tables s → Sound s → (j : ℕ) → pooled t j ≡ pooled s j
-unfolding dispatched left
-trace-pooled rest tb S j = refl
-trace-pooled {now = now} (run {s} {i = i} {p = p} e c r) tb S j =
-    let m = run-keeps s now i p tb S c in
-    trace-pooled r (m .shape .tables tb) (m .sound) j ∙ wrote-pooled (run-wrote s now i p tb c) (sym (ap schedulable (c .ready))) j
-trace-pooled {now = now} (preempt {s} {i = i} {p = p} e c r) tb S j =
-    let m = preempt-keeps s now i p tb S (c .present) in
-    trace-pooled r (m .shape .tables tb) (m .sound) j ∙ wrote-pooled (preempt-wrote s now i p tb S (c .present) (c .on)) (sym (ap schedulable (c .on))) j

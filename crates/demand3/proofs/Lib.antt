@@ -1,20 +1,25 @@
 mod BeforeFirstAdvance
+mod BookReads
+pub mod Built
+mod ClippedMasks
 mod Conclusions
-pub mod Demand3
+mod Demand3
 mod Departures
 mod Entering
 mod EveryCall
-pub mod Examples
 mod Holders
 mod InStep
+pub mod Laws
 mod Made
 pub mod MovesTell
 mod Notes
 mod Noting
 mod Pool
 mod PoolLists
+mod SetWeight
 mod Tracked
-pub mod Uncut
+mod Uncut
+mod WeightCalls
 mod ExactRanking
 mod Lag
 mod LagMoves

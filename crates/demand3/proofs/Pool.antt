@@ -2,14 +2,12 @@
 use Prim.Native.Nat.{ℕ, _+_, _-_, _/_, _%_, _^_, _≤_, _<_}
 use mathlib.Core.Bool.{Bool, true, false, false≢true}
 use mathlib.Core.Path.{_≡_, refl, sym, _∙_, ap, subst}
-use mathlib.Core.Logic.{_⊎_, inl, inr}
 use mathlib.Core.List.{List}
 use native.Mathlib.Omega.{arith}
-use Rattle.service.specs.Service.{value}
 use Rattle.system.specs.declared.VirtualCpu.{VirtualCpu}
 use Rattle.system.specs.declared.System.{System}
 use Rattle.system.specs.Writes.{Tables, present-back}
-use Rattle.system.specs.Slots.{Present, slots, present, is-present, present-is}
+use Rattle.system.specs.Slots.{Present, slots}
 use Rattle.system.specs.Reads.{runtimeAt, pooled}
 use Rattle.system.specs.States.{schedulable}
 use Rattle.verdict.specs.Sound.{Sound}
@@ -17,16 +15,19 @@ use Rattle.sched.specs.Invariants.{Keeps}
 use Rattle.moves.specs.declared.Choice.{Choice}
 use Rattle.moves.specs.declared.Choice.the-variants.{Rest}
 use Rattle.scan.specs.Scan.{Pick, nobody, at}
-use Rattle.policy.specs.declared.Account.{Account}
 use Rattle.policy.specs.declared.Scheduler.{Scheduler}
-use Rattle.policy.specs.Accounts.{covers, accountOf, usedWeight, wasSchedulable, setWakeBoost, unboosted}
+use Rattle.policy.specs.Accounts.{covers, wasSchedulable, setWakeBoost}
 use Rattle.policy.specs.Standing.{weightAt}
 use Rattle.rules.specs.Choices.{choice}
-use Rattle.rules.proofs.Laws.{Trace, trace-keeps}
+use Rattle.rules.proofs.Laws.{Trace, trace-keeps, trace-pooled}
 use Rattle.policy.specs.Accounting.{floor, accounted}
-use Rattle.policy.proofs.Laws.{Tabled, renew-same, accounted-weight, accounted-snapshot, accounted-offset, floor-stayed, cleared, cleared-tabled}
+use Rattle.policy.specs.FloorLaws.{floor-stayed}
+use Rattle.policy.specs.Settings.{Cleared}
+use Rattle.policy.specs.Renewal.{HasAccount, Unlifted}
+use Rattle.policy.specs.Renewal as renewal
+use Rattle.policy.proofs.Laws.{Tabled, renew-same, accounted-renewal, cleared, cleared-tabled}
 use Rattle.demand3.proofs.Lag.{Lag}
-use Rattle.demand3.proofs.LagMoves.{Plain, trace-lag, rest-lag, trace-pooled}
+use Rattle.demand3.proofs.LagMoves.{Plain, trace-lag, rest-lag}
 use Rattle.advance.specs.ServiceRule.{ruleOf}
 use Rattle.demand3.proofs.Departures.{Shrinks, shrinks-lag}
 
@@ -74,7 +75,7 @@ module _ (s : System) (π : Scheduler) (now g : ℕ) (fit : now < 2 ^ 64) (slice
   settles-pooling : {t : System} {cs : List Choice} → Plain ρ → Lag (weightAt π) (slack π g) s now → Trace (ruleOf ρ) now s cs t → choice t (ruleOf ρ) now ≡ Rest → Pooling g now t ρ
   settles-pooling {t} P lag tr e =
       let k = trace-keeps tr tb S in
-      let here = same-weights (λ i. sym (accounted-weight s π L now i)) (subst (λ (q : ℕ). Lag (weightAt π) (q + g - 1) s now) (sym same-slice) lag) in
+      let here = same-weights (λ i. sym (accounted-renewal s π L now i .weight)) (subst (λ (q : ℕ). Lag (weightAt π) (q + g - 1) s now) (sym same-slice) lag) in
       let there = trace-lag ρ P (slack ρ g) tr fit words tb S here in
       record {
         bounded = λ r lo up. rest-lag ρ P (slack ρ g) t now g r fit (k .times words .word) (k .sound) there e (omega (arith, same-slice)) (omega (arith, same-slice)) lo up;
@@ -82,18 +83,15 @@ module _ (s : System) (π : Scheduler) (now g : ℕ) (fit : now < 2 ^ 64) (slice
         tabled = tabled′;
         words = k .times words .word;
         seen = λ i h p c.
-            let q = present-is (present-back (k .shape) h) in
-            accounted-snapshot s π L now i (q .0) (q .1) (sym (same-shape (i / 8) (i % 8)) ∙ c) ∙ (sym (trace-pooled tr tb S i) ∙ p);
+            let a : HasAccount s π i = record { present = present-back (k .shape) h; covered = sym (same-shape (i / 8) (i % 8)) ∙ c } in
+            accounted-renewal s π L now i .snapshot a ∙ (sym (trace-pooled tr tb S i) ∙ p);
       }
 
-  unlifted : Plain π
-      → ((i : ℕ) → (floor s π now ≡ nobody)
-      ⊎ (i < slots s → present s i ≡ true → covers π (i / 8) (i % 8) ≡ true → pooled s i ≡ true → wasSchedulable π (i / 8) (i % 8) ≡ true))
-      → Plain ρ
+  unlifted : Plain π → ((i : ℕ) → Unlifted s π now i) → Plain ρ
   unlifted P f =
       record {
-        offsets = λ i. accounted-offset s π L now i (f i) ∙ P .offsets i;
-        weights = λ i. omega (arith, accounted-weight s π L now i, P .weights i);
+        offsets = λ i. accounted-renewal s π L now i .unlifted (f i) ∙ P .offsets i;
+        weights = λ i. omega (arith, accounted-renewal s π L now i .weight, P .weights i);
       }
 
 -- the first advance finds no floor, as nobody was in the pool before
@@ -102,13 +100,13 @@ no-floor s π now u = go (floor s π now) refl
   where
     go : (r : Pick) → floor s π now ≡ r → r ≡ nobody
     go nobody e = refl
-    go (at f) e = absurd (false≢true (sym (u f) ∙ floor-stayed s π now f e .1))
+    go (at f) e = absurd (false≢true (sym (u f) ∙ floor-stayed s π now f e .was-pooled))
 
 pub first-advance : {s t : System} {π : Scheduler} {cs : List Choice} (now g : ℕ) → now < 2 ^ 64 → 1 ≤ π .quantum → Tables s → Sound s → Words s
     → Tabled π → Plain π → ((i : ℕ) → wasSchedulable π (i / 8) (i % 8) ≡ false) → Lag (weightAt π) (slack π g) s now
     → Trace (ruleOf (accounted s π now)) now s cs t → choice t (ruleOf (accounted s π now)) now ≡ Rest → Pooling g now t (accounted s π now)
 first-advance {s} {t} {π} now g fit q tb S w L P u lag tr e =
-    settles-pooling s π now g fit q tb S w L (unlifted s π now g fit q tb S w L P (λ i. inl (no-floor s π now u))) lag tr e
+    settles-pooling s π now g fit q tb S w L (unlifted s π now g fit q tb S w L P (λ i. renewal.no-floor (no-floor s π now u))) lag tr e
 
 pub next-advance : {s t : System} {π : Scheduler} {cs : List Choice} (t₀ now g : ℕ) → now < 2 ^ 64 → 1 ≤ π .quantum → Tables s → Sound s
     → Pooling g t₀ s π → t₀ ≤ now → now ≤ t₀ + g → Trace (ruleOf (accounted s π now)) now s cs t → choice t (ruleOf (accounted s π now)) now ≡ Rest
@@ -116,7 +114,7 @@ pub next-advance : {s t : System} {π : Scheduler} {cs : List Choice} (t₀ now 
 next-advance {s} {t} {π} t₀ now g fit q tb S p lo up tr e =
     settles-pooling s π now g fit q tb S (p .words) (p .tabled)
     (unlifted s π now g fit q tb S (p .words) (p .tabled) (p .plain)
-    (λ i. inr (λ l x c h. p .seen i (is-present s i l x) h c)))
+    (λ i. renewal.not-joined (λ j. false≢true (sym (j .was-not) ∙ p .seen i (j .account .present) (j .is-pooled) (j .account .covered)))))
     (p .bounded now lo up) tr e
 
 -- ---- the other calls
@@ -134,18 +132,18 @@ departure {s} {s′} {π} x k p =
     }
 
 pub boosted : {s : System} {π : Scheduler} {g t : ℕ} (on : Bool) → Pooling g t s π → Pooling g t s (setWakeBoost π on)
-unfolding setWakeBoost value
+unfolding setWakeBoost
 boosted {s} {π} on p =
     record {
       bounded = λ r lo up. same-weights (λ i. sym (weight i)) (p .bounded r lo up);
-      plain = record { offsets = λ i. ap (λ (a : Account). value (a .offset)) (look i); weights = λ i. omega (arith, weight i, p .plain .weights i) };
+      plain = record { offsets = λ i. look .offset (i / 8) (i % 8); weights = λ i. omega (arith, weight i, p .plain .weights i) };
       tabled = cleared-tabled π (p .tabled) on;
       words = p .words;
-      seen = λ i h q c. ap (λ (a : Account). a .«was_schedulable») (look i) ∙ p .seen i h q c;
+      seen = λ i h q c. look .snapshot (i / 8) (i % 8) ∙ p .seen i h q c;
     }
   where
-    look : (i : ℕ) → accountOf (setWakeBoost π on) (i / 8) (i % 8) ≡ unboosted (accountOf π (i / 8) (i % 8))
-    look i = cleared π on (i / 8) (i % 8)
+    look : Cleared π on (setWakeBoost π on)
+    look = cleared π on
 
     weight : (i : ℕ) → weightAt (setWakeBoost π on) i ≡ weightAt π i
-    weight i = ap usedWeight (look i)
+    weight i = look .weight (i / 8) (i % 8)

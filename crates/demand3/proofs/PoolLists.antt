@@ -1,32 +1,32 @@
 -- Along a pool list the lag is bounded at every point after the first advance. Assumes nothing.
-use Prim.Native.Nat.{ℕ, _+_, _-_, _/_, _%_, _^_, _≤_, _<_}
+use Prim.Native.Nat.{ℕ, _+_, _-_, _/_, _%_, _^_, _≤_, _<_, max}
 use mathlib.Core.Bool.{Bool, false}
 use mathlib.Core.Path.{_≡_, refl, sym, _∙_, ap, subst}
 use mathlib.Core.Logic.{_⊎_, inl, inr}
 use mathlib.Core.List.{List, [], _∷_, _++_}
 use native.Mathlib.Omega.{arith}
 use Rattle.scan.specs.Booleans.{zero-one}
-use Rattle.service.specs.Service.{value}
 use Rattle.system.specs.declared.System.{System}
 use Rattle.system.specs.Answers.{SystemOutcome}
 use Rattle.sched.specs.Answered.{Answered, requested-answered, offline-all-answered}
 use Rattle.sched.specs.Invariants.{Keeps}
 use Rattle.sched.proofs.Laws.{requested-keeps, offline-all-keeps}
-use Rattle.policy.specs.declared.Account.{Account}
 use Rattle.policy.specs.declared.Scheduler.{Scheduler}
-use Rattle.policy.specs.Accounts.{raised, wasSchedulable, accountOf, usedWeight, setWeight, setWakeBoost, unboosted}
+use Rattle.policy.specs.Accounts.{wasSchedulable, setWeight, setWakeBoost}
 use Rattle.policy.specs.Standing.{weightAt}
-use Rattle.policy.proofs.Laws.{Tabled, Weighed, set-weighed, set-weight-tabled, cleared, cleared-tabled}
+use Rattle.policy.specs.Settings.{Weighed, Cleared}
+use Rattle.policy.proofs.Laws.{Tabled, set-weighed, set-weight-either, set-weight-tabled, cleared, cleared-tabled}
 use Rattle.demand3.proofs.LagMoves.{Plain}
 use Rattle.host.specs.declared.Host.{Host}
 use Rattle.host.specs.declared.Call.{Call}
 use Rattle.host.specs.Step.{step, bySystem, hostAfter, Sliced}
 use Rattle.demand3.specs.Book.{Book, Shape}
-use Rattle.demand3.specs.Lists.{Typed, AllTyped, Prepares, Departs, PoolRest, PoolList, Clock, orEarlier, advanceClock, latest}
+use Rattle.host.specs.Typed.{Typed}
+use Rattle.demand3.specs.Lists.{AllTyped, Prepares, Departs, PoolRest, PoolList, Clock, orEarlier, advanceClock, latest}
 use Rattle.demand3.specs.Lists as lists
 use Rattle.demand3.proofs.EveryCall.{Kept, step-goes, advance-traced, advance-rests-here, step-slice}
 use Rattle.demand3.proofs.Departures.{block-shrinks, offline-shrinks, offline-all-shrinks}
-use Rattle.demand3.proofs.BeforeFirstAdvance.{Unrun, admit-unrun, block-unrun, wake-unrun, offline-unrun, offline-all-unrun, unrun-lag}
+use Rattle.demand3.proofs.BeforeFirstAdvance.{Unrun, admit-unrun, block-unrun, wake-unrun, mask-unrun, offline-unrun, offline-all-unrun, unrun-lag}
 use Rattle.demand3.proofs.Pool.{Words, slack, Pooling, first-advance, next-advance, departure, boosted}
 
 -- ---- a refused call leaves the host as it was
@@ -64,8 +64,9 @@ Next h c = (step h c) .host
 by-mechanism : {h : Host} {s : System} → Prepared h → Keeps (h .system) s → Unrun s → Prepared (record { system = s; scheduler = h .scheduler })
 by-mechanism P m y = record { unrun = y; plain = P .plain; tabled = P .tabled; words = m .times (P .words) .word; unseen = P .unseen }
 
-prepare : {k : Shape} {b : Book} {h : Host} {c : Call} → Kept k b h → Prepared h → Typed c → Prepares c → Prepared (Next h c)
-unfolding step setWakeBoost value
+prepare : {k : Shape} {b : Book} {h : Host} {c : Call} → Kept k b h → Prepared h → Typed c → Prepares (h .system .«pcpu_count») c
+    → Prepared (Next h c)
+unfolding step
 prepare {h = h} K P f (lists.Prepares.admit d v) =
     let T = K .in-step in
     by-mechanism P (requested-keeps _ (T .sound) (T .tables) d v _) (admit-unrun _ (T .tables) (T .sound) (P .unrun) d v)
@@ -81,19 +82,26 @@ prepare {h = h} K P f (lists.Prepares.offline d v now) =
 prepare {h = h} K P f (lists.Prepares.offline-all d now) =
     let T = K .in-step in
     by-mechanism P (offline-all-keeps _ (T .sound) (T .tables) d now) (offline-all-unrun _ (T .tables) (T .sound) (P .unrun) d now)
+prepare {h = h} K P f (lists.Prepares.mask d v m e) =
+    let T = K .in-step in
+    by-mechanism P (requested-keeps _ (T .sound) (T .tables) d v _) (mask-unrun _ (T .tables) (T .sound) (P .unrun) d v _ e)
 prepare {h = h} K P f (lists.Prepares.weigh d v w) =
     record {
       unrun = P .unrun;
-      plain = record { offsets = λ i. look i .offset ∙ P .plain .offsets i; weights = λ i. weight i (look i .weight) };
+      plain =
+          record {
+            offsets = λ i. look .offset (i / 8) (i % 8) ∙ P .plain .offsets i;
+            weights = λ i. weight i (set-weight-either (h .scheduler) (P .tabled) d v w (i / 8) (i % 8));
+          };
       tabled = set-weight-tabled (h .scheduler) (P .tabled) d v w;
       words = P .words;
-      unseen = λ i. look i .snapshot ∙ P .unseen i;
+      unseen = λ i. look .snapshot (i / 8) (i % 8) ∙ P .unseen i;
     }
   where
-    look : (i : ℕ) → Weighed (h .scheduler) w i (setWeight (h .scheduler) d v w)
-    look i = set-weighed (h .scheduler) (P .tabled) d v w i
+    look : Weighed (h .scheduler) d v w (setWeight (h .scheduler) d v w)
+    look = set-weighed (h .scheduler) (P .tabled) d v w
 
-    weight : (i : ℕ) → (weightAt (setWeight (h .scheduler) d v w) i ≡ raised (raised w)) ⊎ (weightAt (setWeight (h .scheduler) d v w) i ≡ weightAt (h .scheduler) i)
+    weight : (i : ℕ) → (weightAt (setWeight (h .scheduler) d v w) i ≡ max w 1) ⊎ (weightAt (setWeight (h .scheduler) d v w) i ≡ weightAt (h .scheduler) i)
         → weightAt (setWeight (h .scheduler) d v w) i < 2 ^ 32
     weight i (inl e) = omega (arith, f .2)
     weight i (inr e) = omega (arith, P .plain .weights i)
@@ -102,16 +110,16 @@ prepare {h = h} K P f (lists.Prepares.boost on) =
       unrun = P .unrun;
       plain =
           record {
-            offsets = λ i. ap (λ (a : Account). value (a .offset)) (look i);
-            weights = λ i. omega (arith, ap usedWeight (look i), P .plain .weights i);
+            offsets = λ i. look .offset (i / 8) (i % 8);
+            weights = λ i. omega (arith, look .weight (i / 8) (i % 8), P .plain .weights i);
           };
       tabled = cleared-tabled (h .scheduler) (P .tabled) on;
       words = P .words;
-      unseen = λ i. ap (λ (a : Account). a .«was_schedulable») (look i) ∙ P .unseen i;
+      unseen = λ i. look .snapshot (i / 8) (i % 8) ∙ P .unseen i;
     }
   where
-    look : (i : ℕ) → accountOf (setWakeBoost (h .scheduler) on) (i / 8) (i % 8) ≡ unboosted (accountOf (h .scheduler) (i / 8) (i % 8))
-    look i = cleared (h .scheduler) on (i / 8) (i % 8)
+    look : Cleared (h .scheduler) on (setWakeBoost (h .scheduler) on)
+    look = cleared (h .scheduler) on
 
 -- ---- along the list
 
@@ -202,12 +210,13 @@ rest-along {h = h} {g = g} {t = t} (c ∷ bs) rest (lists.PoolRest.refused n r) 
 none-at : (t : ℕ) → lists.none ≡ lists.at t → ⊥
 none-at t e = zero-one cc
 
-prepares-no-advance : {c : Call} → Prepares c → advanceClock c ≡ lists.none
+prepares-no-advance : {n : ℕ} {c : Call} → Prepares n c → advanceClock c ≡ lists.none
 prepares-no-advance (lists.Prepares.admit d v) = refl
 prepares-no-advance (lists.Prepares.block d v now) = refl
 prepares-no-advance (lists.Prepares.wake d v) = refl
 prepares-no-advance (lists.Prepares.offline d v now) = refl
 prepares-no-advance (lists.Prepares.offline-all d now) = refl
+prepares-no-advance (lists.Prepares.mask d v m e) = refl
 prepares-no-advance (lists.Prepares.weigh d v w) = refl
 prepares-no-advance (lists.Prepares.boost on) = refl
 

@@ -9,7 +9,10 @@ use Rattle.system.specs.declared.RunState.{RunState}
 use Rattle.system.specs.declared.RunState.the-variants.{Offline, Runnable, Running, Blocked}
 use Rattle.system.specs.declared.Occupant.{Occupant}
 use Rattle.system.specs.declared.Occupant.the-variants.{Idle, Vcpu}
+use Rattle.system.specs.declared.Answer.the-variants.{Done, BadDomain, BadVcpu, BadPcpu, PcpuBusy, NotAffine}
+use Rattle.system.specs.Answers.{told}
 use Rattle.system.specs.States.{runsOn}
+use Rattle.changes.specs.Changes.{wrongState}
 use Rattle.moves.specs.declared.Choice.{Choice}
 use Rattle.moves.specs.declared.Choice.the-variants.{Run, Preempt, Rest}
 use Rattle.scan.specs.Scan.{Pick, nobody, at, scan, some, never}
@@ -83,21 +86,22 @@ unwritten n b = record { number = n; book = b; moves = [] }
 
 abbrev pub entered : Book → ℕ → Note → Entry
 entered b i (refuse k) = unwritten k b
-entered b i (write l) = record { number = 0; book = noted b i l; moves = [] }
-entered b i (move w p now l) = record { number = 0; book = noted b i l; moves = dated w i p now ∷ [] }
+entered b i (write l) = record { number = told Done; book = noted b i l; moves = [] }
+entered b i (move w p now l) = record { number = told Done; book = noted b i l; moves = dated w i p now ∷ [] }
 
 -- two entries of a call that refuses nothing, the second into the book that the first leaves
 abbrev pub joined : Entry → Entry → Entry
-joined e f = record { number = 0; book = f .book; moves = e .moves ++ f .moves }
+joined e f = record { number = told Done; book = f .book; moves = e .moves ++ f .moves }
 
 -- ids out of range: 1 for the domain, then 2 for the vCPU
 abbrev pub identified : Shape → Book → ℕ → ℕ → Note → Entry
 identified k b d v n =
-    cond (ltb d (k .domains)) (cond (ltb v (k .vcpus)) (entered b (d * 8 + v) n) (unwritten 2 b)) (unwritten 1 b)
+    cond (ltb d (k .domains)) (cond (ltb v (k .vcpus)) (entered b (d * 8 + v) n) (unwritten (told BadVcpu) b))
+    (unwritten (told BadDomain) b)
 
 -- a vCPU found in a state that the call does not accept
 abbrev pub wrong : RunState → Note
-wrong st = refuse 4
+wrong st = refuse (told (wrongState st))
 
 abbrev pub admitNote : Line → RunState → Note
 admitNote l Offline = write (marked l Runnable)
@@ -107,7 +111,8 @@ admitNote l Blocked = wrong Blocked
 
 abbrev pub runNote : Line → ℕ → Bool → ℕ → RunState → Note
 runNote l p busy now Offline = wrong Offline
-runNote l p busy now Runnable = cond (permits (l .mask) p) (cond busy (refuse 5) (move onto p now (opened l p now))) (refuse 6)
+runNote l p busy now Runnable =
+    cond (permits (l .mask) p) (cond busy (refuse (told PcpuBusy)) (move onto p now (opened l p now))) (refuse (told NotAffine))
 runNote l p busy now (Running q) = wrong (Running q)
 runNote l p busy now Blocked = wrong Blocked
 
@@ -138,12 +143,12 @@ offlineNote l full now Blocked = write (remasked (marked l Offline) full)
 abbrev pub maskNote : Line → ℕ → RunState → Note
 maskNote l m Offline = write (remasked l m)
 maskNote l m Runnable = write (remasked l m)
-maskNote l m (Running p) = cond (permits m p) (write (remasked l m)) (refuse 6)
+maskNote l m (Running p) = cond (permits m p) (write (remasked l m)) (refuse (told NotAffine))
 maskNote l m Blocked = write (remasked l m)
 
 -- the first n vCPUs of domain d taken offline, one after another; one that is Offline stays as it is
 unfoldable pub offlineLines : Shape → Book → ℕ → ℕ → ℕ → Entry
-offlineLines k b d now zero = unwritten 0 b
+offlineLines k b d now zero = unwritten (told Done) b
 offlineLines k b d now (suc n) =
     let e = offlineLines k b d now n in
     let l = (e .book) (d * 8 + n) in
@@ -153,10 +158,10 @@ offlineLines k b d now (suc n) =
 abbrev pub moved : Book → ℕ → Choice → Entry
 moved b now (Run i p) = entered b i (move onto p now (opened (b i) p now))
 moved b now (Preempt i p) = entered b i (move off p now (closed (b i) Runnable now))
-moved b now Rest = unwritten 0 b
+moved b now Rest = unwritten (told Done) b
 
 unfoldable pub movedAll : Book → ℕ → List Choice → Entry
-movedAll b now [] = unwritten 0 b
+movedAll b now [] = unwritten (told Done) b
 movedAll b now (c ∷ cs) = let e = moved b now c in joined e (movedAll (e .book) now cs)
 
 -- a call, with the moves that it enacted
@@ -164,15 +169,15 @@ unfoldable pub enter : Shape → Book → Call → List Choice → Entry
 enter k b (Call.Admit d v) ms = let l = b (d * 8 + v) in identified k b d v (admitNote l (l .state))
 enter k b (Call.Run d v p now) ms =
     let l = b (d * 8 + v) in
-    cond (ltb p (k .pcpus)) (identified k b d v (runNote l p (some (holder k b p)) now (l .state))) (unwritten 3 b)
+    cond (ltb p (k .pcpus)) (identified k b d v (runNote l p (some (holder k b p)) now (l .state))) (unwritten (told BadPcpu) b)
 enter k b (Call.Preempt d v now) ms = let l = b (d * 8 + v) in identified k b d v (preemptNote l now (l .state))
 enter k b (Call.Block d v now) ms = let l = b (d * 8 + v) in identified k b d v (blockNote l now (l .state))
 enter k b (Call.Wake d v) ms = let l = b (d * 8 + v) in identified k b d v (wakeNote l (l .state))
 enter k b (Call.Offline d v now) ms =
     let l = b (d * 8 + v) in identified k b d v (offlineNote l (fullMask (k .pcpus)) now (l .state))
-enter k b (Call.OfflineAll d now) ms = cond (ltb d (k .domains)) (offlineLines k b d now (k .vcpus)) (unwritten 0 b)
+enter k b (Call.OfflineAll d now) ms = cond (ltb d (k .domains)) (offlineLines k b d now (k .vcpus)) (unwritten (told Done) b)
 enter k b (Call.SetAffinity d v m) ms =
     let l = b (d * 8 + v) in identified k b d v (maskNote l (clipped m (k .pcpus)) (l .state))
-enter k b (Call.SetWeight d v w) ms = unwritten 0 b
-enter k b (Call.SetWakeBoost on) ms = unwritten 0 b
+enter k b (Call.SetWeight d v w) ms = unwritten (told Done) b
+enter k b (Call.SetWakeBoost on) ms = unwritten (told Done) b
 enter k b (Call.Advance now) ms = movedAll b now ms

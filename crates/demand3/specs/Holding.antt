@@ -5,6 +5,8 @@ use mathlib.Core.Bool.{cond}
 use mathlib.Core.Path.{_≡_}
 use mathlib.Core.List.{List, [], _∷_}
 use lib.Dec.{eqb}
+use Rattle.system.specs.declared.Answer.the-variants.{Done}
+use Rattle.system.specs.Answers.{told}
 use Rattle.scan.specs.Scan.{Pick}
 use Rattle.scan.specs.Scan as scans
 use Rattle.host.specs.declared.Host.{Host}
@@ -61,7 +63,7 @@ pub record MovesTell (k : Shape) (h : Host) (b : Book) (ms : List Dated) : Type 
   -- the moves of the next call have its clock, so that one without a clock moves nobody
   pub clocks : (c : Call) → AllAt (clockOf c) ((entryOf k h b c) .moves)
   -- if it is refused, nothing is written and nobody moves
-  pub refused : (c : Call) → let e = entryOf k h b c in (e .number ≡ 0 → ⊥) → e ≡ unwritten (e .number) b
+  pub refused : (c : Call) → let e = entryOf k h b c in (e .number ≡ told Done → ⊥) → e ≡ unwritten (e .number) b
 
 -- for every shape, every policy and every slice, 0 included
 abbrev pub EveryPointTells : Type 0

@@ -1,8 +1,12 @@
 pub mod Agreement
 pub mod Book
+pub mod BookRows
+pub mod Built
 pub mod Dated
 pub mod Demand3
 pub mod Holding
 pub mod Lists
-pub mod Situations
+pub mod Reads
 pub mod Uncut
+pub mod WeightRows
+pub mod Weights

@@ -1,32 +1,23 @@
 -- Lists of calls: those whose numbers fit their types; those whose clocks do not run back; the pool lists, over which the lag is
 -- bounded; what is read at a point.
-use Prim.Native.Nat.{ℕ, _+_, _-_, _^_, _≤_, _<_}
+use Prim.Native.Nat.{ℕ, _+_, _-_, _≤_}
 use mathlib.Core.Bool.{Bool}
 use mathlib.Core.Path.{_≡_}
 use mathlib.Core.List.{List, [], _∷_, _++_}
+use Rattle.masks.specs.Masks.{fullMask, clipped}
 use Rattle.system.specs.declared.RunState.{RunState}
 use Rattle.system.specs.declared.RunState.the-variants.{Offline}
+use Rattle.system.specs.declared.Answer.the-variants.{Done}
+use Rattle.system.specs.Answers.{told}
 use Rattle.system.specs.States.{whileRunning}
 use Rattle.host.specs.declared.Host.{Host}
 use Rattle.host.specs.declared.Call.{Call}
 use Rattle.host.specs.Step.{step}
+use Rattle.host.specs.Typed.{Typed}
 use Rattle.demand3.specs.Dated.{Dated}
 use Rattle.demand3.specs.Book.{Line, Book, Shape, Entry, enter}
 
--- ids of 16 and 32 bits, clocks and masks of 64, weights of 32
-abbrev pub Typed : Call → Type 0
-Typed (Call.Admit d v) = (d < 2 ^ 16) × (v < 2 ^ 32)
-Typed (Call.Run d v p now) = (d < 2 ^ 16) × (v < 2 ^ 32) × (p < 2 ^ 32) × (now < 2 ^ 64)
-Typed (Call.Preempt d v now) = (d < 2 ^ 16) × (v < 2 ^ 32) × (now < 2 ^ 64)
-Typed (Call.Block d v now) = (d < 2 ^ 16) × (v < 2 ^ 32) × (now < 2 ^ 64)
-Typed (Call.Wake d v) = (d < 2 ^ 16) × (v < 2 ^ 32)
-Typed (Call.Offline d v now) = (d < 2 ^ 16) × (v < 2 ^ 32) × (now < 2 ^ 64)
-Typed (Call.OfflineAll d now) = (d < 2 ^ 16) × (now < 2 ^ 64)
-Typed (Call.SetAffinity d v m) = (d < 2 ^ 16) × (v < 2 ^ 32) × (m < 2 ^ 64)
-Typed (Call.SetWeight d v w) = (d < 2 ^ 16) × (v < 2 ^ 32) × (w < 2 ^ 32)
-Typed (Call.SetWakeBoost on) = Unit {0}
-Typed (Call.Advance now) = now < 2 ^ 64
-
+-- every call fits its types
 abbrev pub AllTyped : List Call → Type 0
 AllTyped [] = Unit {0}
 AllTyped (c ∷ cs) = Typed c × AllTyped cs
@@ -69,24 +60,25 @@ clockOf (Call.Advance now) = at now
 -- from host h with latest clock c by the calls to latest clock c′; a call that is refused may carry any clock
 pub data Forward : Host → ℕ → List Call → ℕ → Type 0 where
   done : {h : Host} {c : ℕ} → Forward h c [] c
-  timed : {h : Host} {c n c′ : ℕ} {x : Call} {cs : List Call} → (step h x) .number ≡ 0 → clockOf x ≡ at n → c ≤ n
+  timed : {h : Host} {c n c′ : ℕ} {x : Call} {cs : List Call} → (step h x) .number ≡ told Done → clockOf x ≡ at n → c ≤ n
       → Forward ((step h x) .host) n cs c′ → Forward h c (x ∷ cs) c′
   untimed : {h : Host} {c c′ : ℕ} {x : Call} {cs : List Call} → clockOf x ≡ none → Forward ((step h x) .host) c cs c′
       → Forward h c (x ∷ cs) c′
-  refused : {h : Host} {c c′ : ℕ} {x : Call} {cs : List Call} → ((step h x) .number ≡ 0 → ⊥) → Forward ((step h x) .host) c cs c′
+  refused : {h : Host} {c c′ : ℕ} {x : Call} {cs : List Call} → ((step h x) .number ≡ told Done → ⊥) → Forward ((step h x) .host) c cs c′
       → Forward h c (x ∷ cs) c′
 
 -- ---- the pool lists
 
--- calls that set a pool up: nobody is dispatched, and masks stay full
-pub data Prepares : Call → Type 0 where
-  admit : (d v : ℕ) → Prepares (Call.Admit d v)
-  block : (d v now : ℕ) → Prepares (Call.Block d v now)
-  wake : (d v : ℕ) → Prepares (Call.Wake d v)
-  offline : (d v now : ℕ) → Prepares (Call.Offline d v now)
-  offline-all : (d now : ℕ) → Prepares (Call.OfflineAll d now)
-  weigh : (d v w : ℕ) → Prepares (Call.SetWeight d v w)
-  boost : (on : Bool) → Prepares (Call.SetWakeBoost on)
+-- calls that set a pool up on a host of n pCPUs: nobody is dispatched, and masks stay full
+pub data Prepares (n : ℕ) : Call → Type 0 where
+  admit : (d v : ℕ) → Prepares n (Call.Admit d v)
+  block : (d v now : ℕ) → Prepares n (Call.Block d v now)
+  wake : (d v : ℕ) → Prepares n (Call.Wake d v)
+  offline : (d v now : ℕ) → Prepares n (Call.Offline d v now)
+  offline-all : (d now : ℕ) → Prepares n (Call.OfflineAll d now)
+  mask : (d v m : ℕ) → clipped m n ≡ fullMask n → Prepares n (Call.SetAffinity d v m)
+  weigh : (d v w : ℕ) → Prepares n (Call.SetWeight d v w)
+  boost : (on : Bool) → Prepares n (Call.SetWakeBoost on)
 
 -- calls by which a vCPU departs from the pool
 pub data Departs : Call → Type 0 where
@@ -103,14 +95,15 @@ pub data PoolRest (g : ℕ) : Host → ℕ → List Call → Type 0 where
   departs : {h : Host} {t : ℕ} {c : Call} {cs : List Call} → Departs c → PoolRest g ((step h c) .host) t cs → PoolRest g h t (c ∷ cs)
   boosts : {h : Host} {t : ℕ} {on : Bool} {cs : List Call} → PoolRest g ((step h (Call.SetWakeBoost on)) .host) t cs
       → PoolRest g h t (Call.SetWakeBoost on ∷ cs)
-  refused : {h : Host} {t : ℕ} {c : Call} {cs : List Call} → ((step h c) .number ≡ 0 → ⊥) → PoolRest g ((step h c) .host) t cs
+  refused : {h : Host} {t : ℕ} {c : Call} {cs : List Call} → ((step h c) .number ≡ told Done → ⊥) → PoolRest g ((step h c) .host) t cs
       → PoolRest g h t (c ∷ cs)
 
 -- a pool is set up; then comes the first advance, at any clock
 pub data PoolList (g : ℕ) : Host → List Call → Type 0 where
   done : {h : Host} → PoolList g h []
-  prepares : {h : Host} {c : Call} {cs : List Call} → Prepares c → PoolList g ((step h c) .host) cs → PoolList g h (c ∷ cs)
-  refused : {h : Host} {c : Call} {cs : List Call} → ((step h c) .number ≡ 0 → ⊥) → PoolList g ((step h c) .host) cs
+  prepares : {h : Host} {c : Call} {cs : List Call} → Prepares (h .system .«pcpu_count») c → PoolList g ((step h c) .host) cs
+      → PoolList g h (c ∷ cs)
+  refused : {h : Host} {c : Call} {cs : List Call} → ((step h c) .number ≡ told Done → ⊥) → PoolList g ((step h c) .host) cs
       → PoolList g h (c ∷ cs)
   starts : {h : Host} {n : ℕ} {cs : List Call} → PoolRest g ((step h (Call.Advance n)) .host) n cs → PoolList g h (Call.Advance n ∷ cs)
 

@@ -1,1 +1,1 @@
-//! No code: demand 3, one theorem over every list of calls of a fresh host, and the host situations.
+//! No code: demand 3, one theorem over every list of calls of a fresh host.

@@ -1,0 +1,6 @@
+-- What other crates cite of these proofs.
+
+-- demand 3, of every list of calls of every fresh host
+pub use Rattle.demand3.proofs.Demand3.{demand-3}
+-- where clocks do not run back no run time is cut
+pub use Rattle.demand3.proofs.Uncut.{uncut}

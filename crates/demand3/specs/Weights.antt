@@ -1,0 +1,33 @@
+-- The weight of each vCPU as the weight calls of a list leave it, on a policy of e domains of u vCPUs. It reads no policy.
+use Prim.Native.Nat.{ℕ, min, max}
+use mathlib.Core.Bool.{Bool, cond, _&&_}
+use mathlib.Core.List.{List, [], _∷_}
+use lib.Dec.{ltb, eqb}
+use Rattle.host.specs.declared.Call.{Call}
+
+-- d/v is in the policy's shape, and within the sizes
+abbrev pub weighable : ℕ → ℕ → ℕ → ℕ → Bool
+weighable e u d v = ltb d (min e 16) && ltb v (min u 8)
+
+-- what a call makes of the weight w of d/v: a weight call of these very ids replaces it, with 0 set as 1
+abbrev pub weightBy : ℕ → ℕ → ℕ → Call → ℕ
+weightBy d v w (Call.Admit d′ v′) = w
+weightBy d v w (Call.Run d′ v′ p now) = w
+weightBy d v w (Call.Preempt d′ v′ now) = w
+weightBy d v w (Call.Block d′ v′ now) = w
+weightBy d v w (Call.Wake d′ v′) = w
+weightBy d v w (Call.Offline d′ v′ now) = w
+weightBy d v w (Call.OfflineAll d′ now) = w
+weightBy d v w (Call.SetAffinity d′ v′ m) = w
+weightBy d v w (Call.SetWeight d′ v′ x) = cond (eqb d′ d && eqb v′ v) (max x 1) w
+weightBy d v w (Call.SetWakeBoost on) = w
+weightBy d v w (Call.Advance now) = w
+
+-- what a list of calls makes of it
+unfoldable pub weightThrough : ℕ → ℕ → ℕ → List Call → ℕ
+weightThrough d v w [] = w
+weightThrough d v w (c ∷ cs) = weightThrough d v (weightBy d v w c) cs
+
+-- the weight looked up for d/v after a list: 1 until it is set, and 1 for ids that are not weighable
+abbrev pub weightAfter : ℕ → ℕ → List Call → ℕ → ℕ → ℕ
+weightAfter e u cs d v = cond (weighable e u d v) (weightThrough d v 1 cs) 1

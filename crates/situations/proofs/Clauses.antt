@@ -1,0 +1,122 @@
+-- Each clause of demand 3 at the figures of one list, worked out by hand: a clause that said less would not give them. Assumes nothing.
+use Prim.Native.Nat.{_+_, _-_, _*_, _≤_, _<_}
+use mathlib.Core.Bool.{true}
+use mathlib.Core.Path.{_≡_, refl, sym}
+use mathlib.Core.List.{List, [], _∷_, _++_}
+use native.Mathlib.Omega.{arith}
+use borrow.Author.Needs.{needs}
+use lib.ListN.{length}
+use Rattle.masks.specs.Masks.{permits}
+use Rattle.system.specs.declared.RunState.the-variants.{Runnable}
+use Rattle.system.specs.declared.System.{System}
+use Rattle.system.specs.declared.Answer.the-variants.{PcpuBusy}
+use Rattle.system.specs.declared.MaybeU64.{MaybeU64}
+use Rattle.system.specs.Answers.{told}
+use Rattle.system.specs.Reads.{vcpuAt, runtimeOf, onCpuSince, affinityPermits}
+use Rattle.moves.specs.declared.Choice.{Choice}
+use Rattle.scan.specs.Scan.{nobody}
+use Rattle.policy.specs.declared.Scheduler.{Scheduler}
+use Rattle.policy.specs.Accounts.{offsetOf, weightOf}
+use Rattle.policy.specs.Standing.{serviceAt}
+use Rattle.rules.specs.Settle.{movesOn}
+use Rattle.host.specs.declared.Host.{Host}
+use Rattle.host.specs.declared.Call.{Call}
+use Rattle.host.specs.Computing.{computing}
+use Rattle.host.specs.Step.{step, hostAfter, freshHost}
+use Rattle.demand3.specs.Book.{Book, Shape, blankBook, holder, enter, movedAll}
+use Rattle.demand3.specs.Agreement.{PresentIn}
+use Rattle.demand3.specs.Lists.{bookAfter, PoolList, latest, bookService}
+use Rattle.demand3.specs.Lists as lists
+use Rattle.demand3.specs.Weights.{weightThrough}
+use Rattle.demand3.specs.Demand3.{Demand-3}
+use Rattle.demand3.proofs.Laws.{demand-3}
+
+-- two vCPUs on one pCPU, slice 10: 0/0 at weight 2 runs from 0 to 10 and waits, 0/1 runs from 10
+abbrev k : Shape
+k = record { domains = 1; vcpus = 2; pcpus = 1 }
+
+abbrev h : Host
+h = freshHost 1 2 1 1 2 10
+
+abbrev start : List Call
+start = Call.SetWeight 0 0 2 ∷ Call.Admit 0 0 ∷ Call.Admit 0 1 ∷ Call.Advance 0 ∷ []
+
+abbrev cs : List Call
+cs = start ++ (Call.Advance 10 ∷ Call.Run 0 0 0 10 ∷ [])
+
+abbrev rest : List Call
+rest = Call.Run 0 0 0 10 ∷ []
+
+abbrev ran : List Call
+ran = start ++ (Call.Advance 10 ∷ [])
+
+abbrev b : Book
+b = bookAfter k h (blankBook k) ran
+
+abbrev s : System
+s = (hostAfter h ran) .system
+
+abbrev π : Scheduler
+π = (hostAfter h ran) .scheduler
+
+abbrev moves : List Choice
+moves = (step (hostAfter h start) (Call.Advance 10)) .moves
+
+holds : Demand-3 k 1 2 10 h cs
+holds = demand-3 1 2 1 1 2 10 (omega arith) (omega arith) (omega arith) cs (search needs)
+
+first : PresentIn k 0
+first = record { domain = omega arith; vcpu = omega arith }
+
+second : PresentIn k 1
+second = record { domain = omega arith; vcpu = omega arith }
+
+busy : (step (hostAfter h ran) (Call.Run 0 0 0 10)) .number ≡ told PcpuBusy
+unfolding computing bookAfter enter movedAll holder
+busy = holds .told ran [] (Call.Run 0 0 0 10) refl
+
+pool : PoolList 10 h cs
+unfolding hostAfter
+pool =
+    lists.prepares (lists.weigh 0 0 2) (lists.prepares (lists.admit 0 0) (lists.prepares (lists.admit 0 1)
+    (lists.starts (lists.advances {t = 0} {n = 10} (omega arith) (omega arith)
+    (lists.refused {h = hostAfter h ran} {c = Call.Run 0 0 0 10} (λ e. omega (arith, busy)) lists.done)))))
+
+-- the system and its reads
+pub system-figures : ((vcpuAt s 0) .runtime ≡ 10) × (runtimeOf s 0 0 ≡ MaybeU64.Some 10) × (onCpuSince s 0 1 ≡ MaybeU64.Some 10)
+    × (affinityPermits s 0 1 0 ≡ true) × ((b 1) .mask < 2)
+unfolding computing bookAfter enter movedAll holder
+system-figures =
+    let r = holds .reads ran rest refl in (
+      sym (holds .agrees ran rest refl .lines 0 first .time),
+      r .line 0 0 (omega arith) (omega arith) .runtime,
+      r .line 0 1 (omega arith) (omega arith) .since,
+      holds .admits ran rest refl 0 1 0 (omega arith) (omega arith),
+      holds .masks ran rest refl 1 second,
+    )
+
+-- the policy, and the moves of the second advance
+pub policy-figures : (weightOf π 0 0 ≡ 2) × (weightOf π 0 1 ≡ 1) × (π .quantum ≡ 10) × (length moves ≤ 2) × (movesOn 0 moves ≤ 2)
+unfolding weightThrough
+policy-figures = (
+  holds .weights ran rest refl 0 0,
+  holds .weights ran rest refl 0 1,
+  holds .slice ran rest refl,
+  holds .moves (omega arith) start rest 10 refl,
+  holds .moves-on (omega arith) start rest 10 refl 0 (omega arith),
+)
+
+-- as the second advance returns
+pub placed-figures : (b 0) .state ≡ Runnable → holder k b 0 ≡ nobody → permits ((b 0) .mask) 0 ≡ true → ⊥
+placed-figures = holds .placed (omega arith) start rest 10 refl 0 0 first (omega arith)
+
+-- the lag of 0/0, which waits, behind 0/1 at 20, and the services that it compares: 10 over weight 2 and 10 over weight 1
+pub lag-figures : (bookService b 20 1 * 2 ≤ bookService b 20 0 * 1 + (10 + 10 - 1) * 2) × (offsetOf π 0 0 ≡ 0)
+    × (serviceAt s π 20 0 ≡ 10) × (serviceAt s π 20 1 ≡ 10)
+unfolding computing bookAfter enter movedAll holder latest weightThrough
+lag-figures = (
+  holds .lag (omega arith) 10 pool ran rest refl 10 20 refl (omega arith) 1 0 second first refl refl,
+  holds .offsets (omega arith) 10 pool ran rest refl 10 refl 0,
+  holds .services (omega arith) 10 pool ran rest refl 10 20 refl (omega arith) 0 first,
+  holds .services (omega arith) 10 pool ran rest refl 10 20 refl (omega arith) 1 second,
+)

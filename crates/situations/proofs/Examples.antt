@@ -1,0 +1,99 @@
+-- Lists that meet the hypotheses of demand 3, one of any kind and one at which two moves a pCPU are made, and one whose clocks do not run
+-- back, with their moves and figures: the theorems are not empty, and the bound on moves is attained. Assumes nothing.
+use Prim.Native.Nat.{_*_}
+use mathlib.Core.Path.{_≡_, refl}
+use mathlib.Core.List.{List, [], _∷_, _++_, map}
+use lib.ListN.{length}
+use native.Mathlib.Omega.{arith}
+use borrow.Author.Needs.{needs}
+use Rattle.system.specs.declared.RunState.the-variants.{Running}
+use Rattle.moves.specs.declared.Choice.the-variants.{Run, Preempt}
+use Rattle.rules.specs.Settle.{movesOn}
+use Rattle.host.specs.declared.Host.{Host}
+use Rattle.host.specs.declared.Call.{Call}
+use Rattle.host.specs.Computing.{computing}
+use Rattle.host.specs.Step.{Step, step, hostAfter, freshHost}
+use Rattle.demand3.specs.Dated.{onto, off, dated}
+use Rattle.demand3.specs.Book.{Book, Shape, blankBook, holder, enter, movedAll, offlineLines}
+use Rattle.demand3.specs.Lists.{bookAfter, movesAfter, Forward}
+use Rattle.demand3.specs.Lists as lists
+use Rattle.demand3.specs.Demand3.{Demand-3}
+use Rattle.demand3.specs.Uncut.{Uncut}
+use Rattle.demand3.proofs.Laws.{demand-3, uncut}
+
+-- each call's step
+unfoldable pub steps : Host → List Call → List Step
+steps h [] = []
+steps h (c ∷ cs) = step h c ∷ steps ((step h c) .host) cs
+
+-- ---- any list: two vCPUs on one pCPU, slice 10, then a dispatch that is refused
+
+abbrev pub one-pcpu : Shape
+one-pcpu = record { domains = 1; vcpus = 2; pcpus = 1 }
+
+abbrev pub built : Host
+built = freshHost 1 2 1 1 2 10
+
+abbrev pub calls : List Call
+calls = Call.Admit 0 0 ∷ Call.Admit 0 1 ∷ Call.Advance 100 ∷ Call.Advance 105 ∷ Call.Advance 110 ∷ Call.Run 0 0 0 110 ∷ []
+
+pub calls-hold : Demand-3 one-pcpu 1 2 10 built calls
+calls-hold =
+    demand-3 1 2 1 1 2 10 (omega arith) (omega arith) (omega arith) calls
+    (search needs)
+
+-- what each call is told, and the moves of each
+pub calls-do : (map (λ (r : Step). r .number) (steps built calls) ≡ 0 ∷ 0 ∷ 0 ∷ 0 ∷ 0 ∷ 5 ∷ [])
+    × (map (λ (r : Step). r .moves) (steps built calls) ≡ [] ∷ [] ∷ (Run 0 0 ∷ []) ∷ [] ∷ (Preempt 0 0 ∷ Run 1 0 ∷ []) ∷ [] ∷ [])
+unfolding computing steps
+calls-do = (refl, refl)
+
+-- ---- two moves a pCPU: four vCPUs on two pCPUs, slice 10. Who runs from 0 has expired at 10, and both who wait beat both
+
+abbrev pub four : Host
+four = freshHost 1 4 2 1 4 10
+
+abbrev pub four-start : List Call
+four-start = Call.Admit 0 0 ∷ Call.Admit 0 1 ∷ Call.Admit 0 2 ∷ Call.Admit 0 3 ∷ Call.Advance 0 ∷ []
+
+pub two-moves-made : let ms = (step (hostAfter four four-start) (Call.Advance 10)) .moves in
+    (ms ≡ Preempt 0 0 ∷ Run 2 0 ∷ Preempt 1 1 ∷ Run 3 1 ∷ []) × (length ms ≡ 2 * 2) × (movesOn 0 ms ≡ 2) × (movesOn 1 ms ≡ 2)
+unfolding computing movesOn
+two-moves-made = (refl, refl, refl, refl)
+
+-- ---- a list whose clocks do not run back: two vCPUs on two pCPUs, slice 0; a dispatch at a later clock is refused, both go offline, and
+-- 0/0 runs again
+
+abbrev pub two-pcpus : Shape
+two-pcpus = record { domains = 1; vcpus = 2; pcpus = 2 }
+
+abbrev pub unsliced : Host
+unsliced = freshHost 1 2 2 1 2 0
+
+abbrev pub forward-start : List Call
+forward-start = Call.Admit 0 0 ∷ Call.Admit 0 1 ∷ Call.Advance 0 ∷ []
+
+abbrev pub forward : List Call
+forward = forward-start ++ (Call.Run 0 0 1 99 ∷ Call.OfflineAll 0 7 ∷ Call.Admit 0 0 ∷ Call.Advance 7 ∷ [])
+
+abbrev pub forward-book : Book
+forward-book = bookAfter two-pcpus unsliced (blankBook two-pcpus) forward
+
+-- what each call is told, its dated moves, and that 0/0 has a run time equal to the clock of its run and to the latest
+pub forward-does : (map (λ (r : Step). r .number) (steps unsliced forward) ≡ 0 ∷ 0 ∷ 0 ∷ 4 ∷ 0 ∷ 0 ∷ 0 ∷ [])
+    × (movesAfter two-pcpus unsliced (blankBook two-pcpus) forward
+    ≡ dated onto 0 0 0 ∷ dated onto 1 1 0 ∷ dated off 0 0 7 ∷ dated off 1 1 7 ∷ dated onto 0 0 7 ∷ [])
+    × ((forward-book 0) .state ≡ Running 0) × ((forward-book 0) .time ≡ 7) × ((forward-book 0) .clock ≡ 7)
+unfolding computing steps bookAfter movesAfter enter movedAll offlineLines holder
+forward-does = (refl, refl, refl, refl, refl)
+
+pub forward-list : Forward unsliced 0 forward 7
+unfolding computing steps
+forward-list =
+    lists.untimed refl (lists.untimed refl (lists.timed {c = 0} {n = 0} refl refl (omega arith)
+    (lists.refused {h = hostAfter unsliced forward-start} {x = Call.Run 0 0 1 99} (λ e. omega arith)
+    (lists.timed {c = 0} {n = 7} refl refl (omega arith)
+    (lists.untimed refl (lists.timed {c = 7} {n = 7} refl refl (omega arith) lists.done))))))
+
+pub forward-holds : Uncut two-pcpus forward-book 7
+forward-holds = uncut 1 2 2 1 2 0 (omega arith) (omega arith) (omega arith) forward 7 forward-list

@@ -1,0 +1,4 @@
+pub mod Examples
+pub mod PoolExamples
+pub mod Extremes
+pub mod Clauses

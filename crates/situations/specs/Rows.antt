@@ -1,0 +1,165 @@
+-- Which test of a call comes first, what a host that is too large or damaged is told, and the situations of the requirements that are
+-- not in `Situations`, by hand. Assumes nothing.
+use Prim.Native.Nat.{ℕ, _+_}
+use mathlib.Core.Bool.{true}
+use mathlib.Core.Path.{refl}
+use mathlib.Core.List.{List, [], _∷_, map}
+use lib.ListN.{length}
+use Rattle.rows.specs.Rows.{Row, row, rows, AllDue}
+use Rattle.system.specs.declared.Occupant.{Occupant}
+use Rattle.system.specs.declared.Occupant.the-variants.{Idle, Vcpu}
+use Rattle.system.specs.Reads.{occupantAt}
+use Rattle.system.specs.Shape.{fresh}
+use Rattle.system.specs.Writes.{putOccupant}
+use Rattle.policy.specs.Accounts.{offsetOf, freshPolicy, builtPolicy}
+use Rattle.policy.specs.Standing.{weightAt}
+use Rattle.policy.specs.Accounting.{accounted}
+use Rattle.advance.specs.Advance.{next}
+use Rattle.host.specs.declared.Host.{Host}
+use Rattle.host.specs.declared.Call.{Call}
+use Rattle.host.specs.Computing.{computing}
+use Rattle.host.specs.Step.{step, hostAfter, freshHost}
+use Rattle.host.specs.Outcomes.{builtHost}
+
+abbrev told : Host → Call → ℕ
+told h c = (step h c) .number
+
+abbrev count : Host → Call → ℕ
+count h c = length ((step h c) .moves)
+
+-- ---- a host of 2 domains of 3 vCPUs on 2 pCPUs with each state: 0/0 Running on pCPU 0, 0/1 and 0/2 Runnable, 1/0 Blocked, 1/1 Offline.
+-- 0/1 and 1/1 admit pCPU 1 alone
+
+abbrev mixed : Host
+mixed =
+    hostAfter (freshHost 2 3 2 2 3 10)
+    (Call.Admit 0 0 ∷ Call.Run 0 0 0 0 ∷ Call.Admit 0 1 ∷ Call.SetAffinity 0 1 2 ∷ Call.Admit 0 2 ∷ Call.Admit 1 0 ∷ Call.Block 1 0 0
+    ∷ Call.SetAffinity 1 1 2 ∷ [])
+
+-- what a call is told of 9/9, of 9/0, of 1/9, and of 0/8, whose slot would be that of 1/0
+abbrev ids : (ℕ → ℕ → Call) → List ℕ
+ids call = told mixed (call 9 9) ∷ told mixed (call 9 0) ∷ told mixed (call 1 9) ∷ told mixed (call 0 8) ∷ []
+
+-- what it is told of one Offline, Runnable, Running, Blocked
+abbrev states : (ℕ → ℕ → Call) → List ℕ
+states call = told mixed (call 1 1) ∷ told mixed (call 0 2) ∷ told mixed (call 0 0) ∷ told mixed (call 1 0) ∷ []
+
+-- 1 before 2, both before 4 and 6; 4 and 6 by the state
+abbrev pub tests : List Row
+tests =
+    rows (ids Call.Admit) (1 ∷ 1 ∷ 2 ∷ 2 ∷ [])
+    ∷ rows (states Call.Admit) (0 ∷ 4 ∷ 4 ∷ 4 ∷ [])
+    ∷ rows (ids (λ d v. Call.Preempt d v 0)) (1 ∷ 1 ∷ 2 ∷ 2 ∷ [])
+    ∷ rows (states (λ d v. Call.Preempt d v 0)) (4 ∷ 4 ∷ 0 ∷ 4 ∷ [])
+    ∷ rows (ids (λ d v. Call.Block d v 0)) (1 ∷ 1 ∷ 2 ∷ 2 ∷ [])
+    ∷ rows (states (λ d v. Call.Block d v 0)) (4 ∷ 0 ∷ 0 ∷ 4 ∷ [])
+    ∷ rows (ids Call.Wake) (1 ∷ 1 ∷ 2 ∷ 2 ∷ [])
+    ∷ rows (states Call.Wake) (4 ∷ 4 ∷ 4 ∷ 0 ∷ [])
+    ∷ rows (ids (λ d v. Call.Offline d v 0)) (1 ∷ 1 ∷ 2 ∷ 2 ∷ [])
+    ∷ rows (states (λ d v. Call.Offline d v 0)) (4 ∷ 0 ∷ 0 ∷ 0 ∷ [])
+    -- a mask without pCPU 0, and one with it
+    ∷ rows (ids (λ d v. Call.SetAffinity d v 2)) (1 ∷ 1 ∷ 2 ∷ 2 ∷ [])
+    ∷ rows (states (λ d v. Call.SetAffinity d v 2)) (0 ∷ 0 ∷ 6 ∷ 0 ∷ [])
+    ∷ rows (states (λ d v. Call.SetAffinity d v 1)) (0 ∷ 0 ∷ 0 ∷ 0 ∷ [])
+    -- run onto pCPU 2, which is not there; onto pCPU 0, which is busy; onto pCPU 1, which is idle
+    ∷ rows (ids (λ d v. Call.Run d v 2 0)) (3 ∷ 3 ∷ 3 ∷ 3 ∷ [])
+    ∷ rows (states (λ d v. Call.Run d v 2 0)) (3 ∷ 3 ∷ 3 ∷ 3 ∷ [])
+    ∷ rows (ids (λ d v. Call.Run d v 0 0)) (1 ∷ 1 ∷ 2 ∷ 2 ∷ [])
+    ∷ rows (states (λ d v. Call.Run d v 0 0)) (4 ∷ 5 ∷ 4 ∷ 4 ∷ [])
+    ∷ rows (states (λ d v. Call.Run d v 1 0)) (4 ∷ 0 ∷ 4 ∷ 4 ∷ [])
+    -- onto pCPU 0, which the mask of 0/1 does not admit
+    ∷ row (told mixed (Call.Run 0 1 0 0)) 6
+    -- ids out of range: weight and `offline_all` are told 0
+    ∷ rows (ids (λ d v. Call.SetWeight d v 7)) (0 ∷ 0 ∷ 0 ∷ 0 ∷ [])
+    ∷ row (told mixed (Call.OfflineAll 2 0)) 0
+    ∷ []
+
+pub tests-due : AllDue tests
+unfolding computing
+tests-due = refl
+
+-- ---- too large, or damaged
+
+-- pCPU 0 names 0/0, which is Offline; and 17 domains
+abbrev damaged : Host
+damaged = record { system = putOccupant (fresh 1 1 1) 0 (Vcpu 0 0); scheduler = freshPolicy 1 1 10 }
+
+abbrev oversized : Host
+oversized = record { system = fresh 17 1 1; scheduler = freshPolicy 1 1 10 }
+
+-- every call of the mechanism with each id out of range, `offline_all`, an advance; weight and boost
+abbrev every : List Call
+every =
+    Call.Admit 9 9 ∷ Call.Run 9 9 9 0 ∷ Call.Preempt 9 9 0 ∷ Call.Block 9 9 0 ∷ Call.Wake 9 9 ∷ Call.Offline 9 9 0 ∷ Call.SetAffinity 9 9 0
+    ∷ Call.OfflineAll 9 0 ∷ Call.Advance 0 ∷ Call.SetWeight 9 9 0 ∷ Call.SetWakeBoost true ∷ []
+
+abbrev eights : List ℕ
+eights = 8 ∷ 8 ∷ 8 ∷ 8 ∷ 8 ∷ 8 ∷ 8 ∷ 8 ∷ 8 ∷ 0 ∷ 0 ∷ []
+
+-- what `next` is told
+abbrev recommended : Host → ℕ
+recommended h = (next (h .system) (h .scheduler) 0) .number
+
+abbrev pub unfit : List Row
+unfit =
+    rows (map (told damaged) every) eights
+    ∷ rows (map (told oversized) every) eights
+    ∷ rows (recommended damaged ∷ recommended oversized ∷ count damaged (Call.Advance 0) ∷ []) (8 ∷ 8 ∷ 0 ∷ [])
+    -- 16 domains, 8 vCPUs, 64 pCPUs build; one more of any is told 7
+    ∷ rows ((builtPolicy 16 8 10) .number ∷ (builtPolicy 17 8 10) .number ∷ (builtPolicy 16 9 10) .number ∷ []) (0 ∷ 7 ∷ 7 ∷ [])
+    ∷ rows
+    ((builtHost 16 8 64 10) .number ∷ (builtHost 17 8 64 10) .number ∷ (builtHost 16 9 64 10) .number ∷ (builtHost 16 8 65 10) .number ∷ [])
+    (0 ∷ 7 ∷ 7 ∷ 7 ∷ [])
+    ∷ []
+
+pub unfit-due : AllDue unfit
+unfolding computing next
+unfit-due = refl
+
+-- ---- weights, holders, an offset
+
+-- 2 × 2, weight 5 for 1/1
+abbrev weighed : Host
+weighed = (step (freshHost 2 2 1 2 2 10) (Call.SetWeight 1 1 5)) .host
+
+abbrev weightsAfter : Call → List ℕ
+weightsAfter c = map (weightAt ((step weighed c) .host .scheduler)) (0 ∷ 1 ∷ 2 ∷ 8 ∷ 9 ∷ 17 ∷ [])
+
+-- who holds pCPU 0: a vCPU of domain 0 by its id and 1, 0 for nobody
+abbrev holderOf : Occupant → ℕ
+holderOf Idle = 0
+holderOf (Vcpu d v) = v + 1
+
+-- one pCPU, weights 2 and 1, slice 10
+abbrev two-to-one : List Call → ℕ
+two-to-one cs =
+    holderOf (occupantAt ((hostAfter (freshHost 1 2 1 1 2 10) (Call.SetWeight 0 0 2 ∷ Call.Admit 0 0 ∷ Call.Admit 0 1 ∷ cs)) .system) 0)
+
+-- 0/0 and 0/1 run from 0; 0/1 is blocked at 5 and wakes before the advance at 7
+abbrev asleep-between : Host
+asleep-between =
+    hostAfter (freshHost 1 2 2 1 2 10)
+    (Call.Admit 0 0 ∷ Call.Admit 0 1 ∷ Call.Advance 0 ∷ Call.Block 0 1 5 ∷ Call.Wake 0 1 ∷ [])
+
+abbrev pub others : List Row
+others =
+    -- a weight for 2/1, and for 0/9, whose slot would be that of 1/1; a weight of 0 becomes 1
+    rows (weightsAfter (Call.SetWeight 2 1 7)) (1 ∷ 1 ∷ 1 ∷ 1 ∷ 5 ∷ 1 ∷ [])
+    ∷ rows (weightsAfter (Call.SetWeight 0 9 7)) (1 ∷ 1 ∷ 1 ∷ 1 ∷ 5 ∷ 1 ∷ [])
+    ∷ rows (weightsAfter (Call.SetWeight 1 1 0)) (1 ∷ 1 ∷ 1 ∷ 1 ∷ 1 ∷ 1 ∷ [])
+    -- the holder after advances at 0, 10, 20, 30, 40: first, second, first, first, second
+    ∷ rows
+    (two-to-one (Call.Advance 0 ∷ []) ∷ two-to-one (Call.Advance 0 ∷ Call.Advance 10 ∷ [])
+    ∷ two-to-one (Call.Advance 0 ∷ Call.Advance 10 ∷ Call.Advance 20 ∷ [])
+    ∷ two-to-one (Call.Advance 0 ∷ Call.Advance 10 ∷ Call.Advance 20 ∷ Call.Advance 30 ∷ [])
+    ∷ two-to-one (Call.Advance 0 ∷ Call.Advance 10 ∷ Call.Advance 20 ∷ Call.Advance 30 ∷ Call.Advance 40 ∷ []) ∷ [])
+    (1 ∷ 2 ∷ 1 ∷ 1 ∷ 2 ∷ [])
+    -- a host of 0 pCPUs only ever decides Idle
+    ∷ row (count (hostAfter (freshHost 1 2 0 1 2 10) (Call.Admit 0 0 ∷ Call.Admit 0 1 ∷ [])) (Call.Advance 10)) 0
+    -- a block and a wake between two advances are no wake edge: no offset, though the floor is 7 over 1
+    ∷ row (offsetOf (accounted (asleep-between .system) (asleep-between .scheduler) 7) 0 1) 0
+    ∷ []
+
+pub others-due : AllDue others
+unfolding computing
+others-due = refl
