@@ -1,10 +1,7 @@
--- A record of a script: 20 bytes, each field with its most significant byte first. Assumes nothing.
-use Prim.Native.Nat.{ℕ, zero, suc, _+_, _*_, _^_}
+-- A record of a script: 20 bytes, each field with its most significant byte first.
+use Prim.Native.Nat.{ℕ, zero, suc, _+_, _*_}
 use mathlib.Core.Bool.{Bool, cond, not}
-use mathlib.Core.Path.{_≡_, ap}
 use mathlib.Core.List.{List, [], _∷_}
-use native.Mathlib.Nat.{add-zero, add-suc, mul-assoc, pow-suc}
-use native.Mathlib.Omega.{arith}
 use lib.Dec.{ltb, leb, eqb}
 use lib.ListN.{length, getD}
 use Rattle.system.specs.declared.Answer.the-variants.{TooLarge, BadScript}
@@ -69,16 +66,3 @@ planned built r = cond (eqb (r .kind) 0) (buildOf r) (afterBuild built (callOf r
 -- what a script does of the record at the start of what is left of it
 unfoldable pub planOf : Bool → List ℕ → Plan
 planOf built bs = cond (ltb (length bs) 20) (Plan.Refuse BadScript) (planned built (recordOf bs))
-
--- a number of m + n bytes is one of m bytes before one of n
-pub number-add : (bs : List ℕ) (at m n : ℕ) → number bs at (m + n) ≡ number bs at m * 256 ^ n + number bs (at + m) n
-unfolding number
-number-add bs at m zero = rw (add-zero m) (omega arith)
-number-add bs at m (suc n) =
-    let here : getD bs (at + (m + n)) 0 ≡ getD bs ((at + m) + n) 0 = ap (λ i. getD bs i 0) (omega arith) in
-    let scaled = mul-assoc (number bs at m) (256 ^ n) 256 in
-    rw (add-suc m n, pow-suc 256 n) (omega (arith, number-add bs at m n, here, scaled))
-
-pub number-one : (bs : List ℕ) (at : ℕ) → number bs at 1 ≡ getD bs at 0
-unfolding number
-number-one bs at = rw (add-zero at) (omega arith)

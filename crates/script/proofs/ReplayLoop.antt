@@ -22,7 +22,7 @@ use Rattle.records.specs.Records.{planOf}
 use Rattle.text.specs.Lines.{answerLine}
 use Rattle.text.specs.Places.{put, Placed, placed-then}
 use Rattle.script.specs.declared.Script.{Script}
-use Rattle.script.specs.Rows.{hostText}
+use Rattle.script.specs.HostText.{hostText}
 use Rattle.script.specs.Script.{carried, builtAfter, scriptNext, lineTold, hostShown, entry, scriptAfter, text, room}
 
 abbrev pub scriptOf : ℕ → Bool → Host → Script

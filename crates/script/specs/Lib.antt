@@ -1,3 +1,6 @@
-pub mod Rows
+pub mod HostText
 pub mod Script
 pub mod Laws
+pub mod Computing
+pub mod Example
+pub mod Rows

@@ -1,67 +1,92 @@
--- A host as text: a line for each vCPU, by domain, then vCPU, and one for each pCPU that somebody holds.
-use Prim.Native.Nat.{ℕ, zero, suc, _*_, _/_, _%_}
-use mathlib.Core.Bool.{cond}
+-- What scripts are told, as the requirements say, and the whole host as `trace` writes it. Assumes nothing.
+use Prim.Native.Nat.{ℕ}
+use mathlib.Core.Bool.{true, false}
+use mathlib.Core.Path.{refl}
 use mathlib.Core.List.{List, [], _∷_, _++_}
-use lib.Dec.{ltb}
-use Rattle.system.specs.declared.RunState.{RunState}
-use Rattle.system.specs.declared.RunState.the-variants.{Offline, Runnable, Running, Blocked}
-use Rattle.system.specs.declared.VirtualCpu.{VirtualCpu}
-use Rattle.system.specs.declared.Occupant.{Occupant}
-use Rattle.system.specs.declared.Occupant.the-variants.{Idle, Vcpu}
-use Rattle.system.specs.declared.System.{System}
-use Rattle.system.specs.Reads.{vcpuAt, occupantAt}
-use Rattle.system.specs.Slots.{domains, vcpus, pcpus}
-use Rattle.system.specs.States.{whileRunning}
-use Rattle.policy.specs.declared.Scheduler.{Scheduler}
-use Rattle.policy.specs.Accounts.{weightOf}
-use Rattle.host.specs.declared.Host.{Host}
-use Rattle.text.specs.Lines.{vcpuLine, pcpuLine}
+use lib.ListN.{take}
+use Rattle.rows.specs.Rows.{Row, rows, AllDue}
+use Rattle.records.specs.Bytes.{bytesOf}
+use Rattle.text.specs.Ascii.{ascii}
+use Rattle.script.specs.Computing.{replaying}
+use Rattle.script.specs.HostText.{hostText}
+use Rattle.script.specs.Script.{begun, scriptAfter, text, recordsIn}
 
-abbrev pub stateNumber : RunState → ℕ
-stateNumber Offline = 0
-stateNumber Runnable = 1
-stateNumber (Running p) = 2
-stateNumber Blocked = 3
+-- the bytes of some records
+abbrev all : List (List ℕ) → List ℕ
+all [] = []
+all (r ∷ rs) = r ++ all rs
 
--- the pCPU of a vCPU, 64 unless it is Running
-abbrev pub pcpuNumber : RunState → ℕ
-pcpuNumber st = whileRunning st (λ p. p) 64
+-- the text of a whole script, as `replay` writes it and as `trace` does
+abbrev replayed : List ℕ → List ℕ
+replayed bs = text false begun bs (recordsIn bs)
 
--- since when it runs, 0 unless it is Running
-abbrev pub clockNumber : ℕ → RunState → ℕ
-clockNumber t st = whileRunning st (λ p. t) 0
+abbrev traced : List ℕ → List ℕ
+traced bs = text true begun bs (recordsIn bs)
 
--- domain, vCPU, state, pCPU, clock, run time, mask, weight
-abbrev pub vcpuNumbers : ℕ → ℕ → VirtualCpu → ℕ → List ℕ
-vcpuNumbers d u v w =
-    d
-    ∷ u
-    ∷ stateNumber (v .state)
-    ∷ pcpuNumber (v .state)
-    ∷ clockNumber (v .«dispatched_at») (v .state)
-    ∷ v .runtime
-    ∷ v .affinity
-    ∷ w
+-- ---- the records: a build of d domains, v vCPUs and p pCPUs, and some of 0/0
+
+abbrev build : ℕ → ℕ → ℕ → List ℕ
+build d v p = bytesOf 0 d v p 10
+
+abbrev admit : List ℕ
+admit = bytesOf 1 0 0 0 0
+
+abbrev ofKind : ℕ → List ℕ
+ofKind k = bytesOf k 0 0 0 0
+
+-- ---- the tables
+
+abbrev pub told : List Row
+told =
+    -- the last record has 1 byte, or 19
+    rows (replayed (0 ∷ [])) (ascii "1 9 0\n")
+    ∷ rows (replayed (build 1 1 1 ++ take 19 admit)) (ascii "1 0 0\n2 9 0\n")
+    -- kinds above 10
+    ∷ rows (replayed (all (build 1 1 1 ∷ ofKind 11 ∷ ofKind 65535 ∷ []))) (ascii "1 0 0\n2 9 0\n3 9 0\n")
+    -- every kind but 0 before a build
+    ∷ rows (replayed (all (ofKind 1 ∷ ofKind 2 ∷ ofKind 3 ∷ ofKind 4 ∷ ofKind 5 ∷ []))) (ascii "1 9 0\n2 9 0\n3 9 0\n4 9 0\n5 9 0\n")
+    ∷ rows (replayed (all (ofKind 6 ∷ ofKind 7 ∷ ofKind 8 ∷ ofKind 9 ∷ ofKind 10 ∷ []))) (ascii "1 9 0\n2 9 0\n3 9 0\n4 9 0\n5 9 0\n")
+    -- the largest host, and one of nothing; 17 domains, 9 vCPUs, 65 pCPUs
+    ∷ rows (replayed (all (build 16 8 64 ∷ build 0 0 0 ∷ []))) (ascii "1 0 0\n2 0 0\n")
+    ∷ rows (replayed (all (build 17 8 64 ∷ build 16 9 64 ∷ build 16 8 65 ∷ []))) (ascii "1 7 0\n2 7 0\n3 7 0\n")
+    -- a build that is refused is none
+    ∷ rows (replayed (all (build 17 1 1 ∷ admit ∷ []))) (ascii "1 7 0\n2 9 0\n")
+    -- what is refused keeps the earlier host, where 0/0 is not Offline: a build, a kind above 10, a call
+    ∷ rows (replayed (all (build 1 1 1 ∷ admit ∷ build 17 1 1 ∷ admit ∷ []))) (ascii "1 0 0\n2 0 0\n3 7 0\n4 4 0\n")
+    ∷ rows (replayed (all (build 1 1 1 ∷ admit ∷ ofKind 11 ∷ admit ∷ admit ∷ []))) (ascii "1 0 0\n2 0 0\n3 9 0\n4 4 0\n5 4 0\n")
+    -- a second build replaces the host: 0/0 is Offline again
+    ∷ rows (replayed (all (build 1 1 1 ∷ admit ∷ build 1 1 1 ∷ admit ∷ []))) (ascii "1 0 0\n2 0 0\n3 0 0\n4 0 0\n")
     ∷ []
 
--- the line of slot i, if it is that of one of a domain's k vCPUs
-abbrev pub slotRow : ℕ → ℕ → VirtualCpu → ℕ → List ℕ
-slotRow k i v w = cond (ltb (i % 8) k) (vcpuLine (vcpuNumbers (i / 8) (i % 8) v w)) []
+pub told-due : AllDue told
+unfolding replaying
+told-due = refl
 
-abbrev pub vcpuRow : System → Scheduler → ℕ → List ℕ
-vcpuRow s π i = slotRow (vcpus s) i (vcpuAt s i) (weightOf π (i / 8) (i % 8))
+-- 0/0 is Offline; 0/1 waits, with mask 2 and weight 7; 0/2 runs on pCPU 1 since 100; 0/3 ran from 3 to 8 and is blocked
+abbrev four : List ℕ
+four =
+    all
+    (build 1 4 2
+    ∷ bytesOf 1 0 1 0 0
+    ∷ bytesOf 7 0 1 0 2
+    ∷ bytesOf 8 0 1 7 0
+    ∷ bytesOf 1 0 2 0 0
+    ∷ bytesOf 2 0 2 1 100
+    ∷ bytesOf 1 0 3 0 0
+    ∷ bytesOf 2 0 3 0 3
+    ∷ bytesOf 4 0 3 0 8
+    ∷ [])
 
-unfoldable pub vcpuRows : System → Scheduler → ℕ → List ℕ
-vcpuRows s π zero = []
-vcpuRows s π (suc i) = vcpuRows s π i ++ vcpuRow s π i
+-- The requirements do not say how `trace` writes a host. Of a vCPU: domain, vCPU, state (0 Offline, 1 Runnable, 2 Running, 3 Blocked),
+-- pCPU (64 for none), clock of its run (0 for none), run time, mask, weight. Of a pCPU that is held: its id and the holder's.
+abbrev pub hosts : List Row
+hosts =
+    rows (hostText ((scriptAfter begun four 9) .host))
+    (ascii " 0 0 0 64 0 0 3 1\n 0 1 1 64 0 0 2 7\n 0 2 2 1 100 0 3 1\n 0 3 3 64 0 5 3 1\n p 1 0 2\n")
+    -- after each record that leaves a host, and not before
+    ∷ rows (traced (all (admit ∷ build 2 1 1 ∷ []))) (ascii "1 9 0\n2 0 0\n 0 0 0 64 0 0 1 1\n 1 0 0 64 0 0 1 1\n")
+    ∷ []
 
-abbrev pub pcpuRow : ℕ → Occupant → List ℕ
-pcpuRow p Idle = []
-pcpuRow p (Vcpu d v) = pcpuLine p d v
-
-unfoldable pub pcpuRows : System → ℕ → List ℕ
-pcpuRows s zero = []
-pcpuRows s (suc p) = pcpuRows s p ++ pcpuRow p (occupantAt s p)
-
-unfoldable pub hostText : Host → List ℕ
-hostText h = vcpuRows (h .system) (h .scheduler) (domains (h .system) * 8) ++ pcpuRows (h .system) (pcpus (h .system))
+pub hosts-due : AllDue hosts
+unfolding replaying
+hosts-due = refl

@@ -14,7 +14,7 @@ use Rattle.text.specs.Lines.{answerLine}
 use Rattle.text.specs.Places.{Placed}
 use Rattle.script.specs.declared.Script.{Script}
 use Rattle.script.specs.declared.Taken.{Taken}
-use Rattle.script.specs.Rows.{hostText}
+use Rattle.script.specs.HostText.{hostText}
 
 -- a script of which nothing was read: no host is built yet
 abbrev pub begun : Script

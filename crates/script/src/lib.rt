@@ -11,7 +11,7 @@ ghost use Rattle.host.specs.Outcomes.{hostOutcome, builtHost};
 ghost use Rattle.records.specs.Records.{planOf};
 ghost use Rattle.text.specs.Lines.{answerLine};
 ghost use Rattle.text.specs.Places.{Placed};
-ghost use Rattle.script.specs.Rows.{stateNumber, pcpuNumber, clockNumber, slotRow, pcpuRow, vcpuRows, pcpuRows, hostText};
+ghost use Rattle.script.specs.HostText.{stateNumber, pcpuNumber, clockNumber, slotRow, pcpuRow, vcpuRows, pcpuRows, hostText};
 ghost use Rattle.script.specs.Script.{begun, builtAfter, room, taken, takenOf, Replayed};
 use host::Host;
 use host::Outcome;

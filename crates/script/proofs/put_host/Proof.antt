@@ -2,7 +2,7 @@
 use native.Mathlib.Omega.{arith}
 use borrow.Author.Needs.{needs}
 use Rattle.text.specs.Places.{placed-then}
-use Rattle.script.specs.Rows.{hostText}
+use Rattle.script.specs.HostText.{hostText}
 use Rattle.script.proofs.put_host.Statement.{statement}
 use Rattle.script.proofs.put_host.Tie as tie
 

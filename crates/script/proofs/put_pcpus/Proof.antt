@@ -8,7 +8,7 @@ use borrow.Author.Needs.{needs}
 use Rattle.system.specs.Reads.{occupantAt}
 use Rattle.system.specs.Slots.{pcpus}
 use Rattle.text.specs.Places.{Placed, placed-none, placed-then}
-use Rattle.script.specs.Rows.{pcpuRows}
+use Rattle.script.specs.HostText.{pcpuRows}
 use Rattle.script.proofs.put_pcpus.Statement.{statement}
 use Rattle.script.proofs.put_pcpus.Tie as tie
 

@@ -9,7 +9,7 @@ use Rattle.text.specs.Lengths.{vcpu-line-short}
 use borrow.Author.Tests.{le-ltb, lt-ltb}
 use Rattle.text.specs.Places.{lineOf, placed-none}
 use Rattle.system.specs.declared.VirtualCpu.{VirtualCpu}
-use Rattle.script.specs.Rows.{stateNumber, pcpuNumber, clockNumber, vcpuNumbers}
+use Rattle.script.specs.HostText.{stateNumber, pcpuNumber, clockNumber, vcpuNumbers}
 use Rattle.script.proofs.LineAppends.{line-placed}
 use Rattle.script.proofs.put_vcpu.Statement.{statement}
 use Rattle.script.proofs.put_vcpu.Tie as tie

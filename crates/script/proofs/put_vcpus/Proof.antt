@@ -16,7 +16,7 @@ use Rattle.policy.specs.declared.Account.{Account}
 use Rattle.policy.specs.declared.Scheduler.{Scheduler}
 use Rattle.policy.specs.Accounts.{plain, covers, usedWeight}
 use Rattle.policy.proofs.Laws.{zeros, looked}
-use Rattle.script.specs.Rows.{slotRow, vcpuRow, vcpuRows}
+use Rattle.script.specs.HostText.{slotRow, vcpuRow, vcpuRows}
 use Rattle.script.proofs.put_vcpus.Statement.{statement}
 use Rattle.script.proofs.put_vcpus.Tie as tie
 

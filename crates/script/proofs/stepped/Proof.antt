@@ -55,7 +55,7 @@ carries m =
     (λ w. told-refused h (w .1 .given .1) (w .3) (w .5) (w .6))
     (⊎-elim
     (λ w. told-built h (w .3 .result) (w .1 .given .1) (w .3 .ensures) (w .5) (w .7) (w .8))
-    (λ w. told-called h (w .3 .result) (w .1 .given .1) (w .3 .ensures) (w .5) (w .7) (w .8)))
+    (λ w. told-called h (w .3 .result) (w .1 .given .1) (w .3 .ensures .0) (w .5) (w .7) (w .8)))
     (m .match .came)
 
 same-plan : (m : tie.At-match-came Inv-loop μ-loop) → m .match .plan ≡ m .before .plan-at .result

@@ -1,0 +1,4 @@
+mod Fields
+mod Plans
+pub mod Played
+pub mod Stretches

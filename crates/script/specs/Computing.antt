@@ -1,0 +1,13 @@
+-- The definitions by which a script computes, said once: to unfold `replaying` is to unfold each of them.
+use Rattle.host.specs.Computing.{computing}
+use Rattle.records.specs.Bytes.{bytes}
+use Rattle.records.specs.Records.{number, planOf}
+use Rattle.text.specs.Ascii.{ascii}
+use Rattle.text.specs.Lines.{digits, decimal, field, fields, answerLine, vcpuLine, pcpuLine}
+use Rattle.script.specs.HostText.{vcpuRows, pcpuRows, hostText}
+use Rattle.script.specs.Script.{carried, scriptNext, entry, scriptAfter, text}
+
+unfoldable pub replaying : Type 0
+unfolding computing bytes number planOf ascii digits decimal field fields answerLine vcpuLine pcpuLine vcpuRows pcpuRows hostText carried
+    scriptNext entry scriptAfter text
+replaying = Unit {0}
