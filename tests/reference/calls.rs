@@ -3,7 +3,7 @@ use crate::comparison::{length, Comparison, Output, Reached, BUDGET};
 use crate::generate::{bounded, Rng};
 use crate::lines;
 use crate::script::{Record, Replay, RECORD};
-use crate::tally::Tally;
+use crate::tally::{Tally, CALLS};
 use std::process::ExitCode;
 
 pub fn compare(comparison: &Comparison) -> ExitCode {
@@ -15,11 +15,16 @@ pub fn compare(comparison: &Comparison) -> ExitCode {
     })
 }
 
-#[derive(Default)]
 struct Calls {
     moves: u64,
     states: u64,
     answers: Tally,
+}
+
+impl Default for Calls {
+    fn default() -> Calls {
+        Calls { moves: 0, states: 0, answers: Tally::new(CALLS) }
+    }
 }
 
 impl Reached for Calls {

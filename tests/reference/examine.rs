@@ -1,11 +1,15 @@
-//! Upstream's reads after each record, as the program `examine` writes them. Two kinds more than a script's:
-//! 11 is `offline_all` (domain, value the clock); 12 builds a host whose policy has a shape of its own: its
-//! domains are the value's first byte, its vCPUs the second, the slice the other six.
+//! Upstream's reads after each record, as the program `examine` writes them. Kinds above a script's: 11 is
+//! `offline_all` (domain, value the clock); 12 builds a host whose policy has a shape of its own: its domains are the
+//! value's first byte, its vCPUs the second, the slice the other six; 13 to 28 write a field with no test. Answer 8 and
+//! the verdict Oversize are added here; when it is told goes by upstream's own verdict.
 use crate::lines::{answer, numbers};
-use crate::policy::{Decision, Scheduler};
-use crate::sched::{RunState, System, Violation};
-use crate::script::{told, unless_overflow, Host, Record, Replay, Told, BAD_SCRIPT, DONE, SIZES, TOO_LARGE};
+use crate::fields::{self, names_field, verdict, Verdict};
+use crate::policy::Decision;
+use crate::sched::{RunState, Violation};
+use crate::script::{told, unless_overflow, Host, Record, Replay, Told, BAD_SCRIPT, DONE, SIZES, TOO_LARGE, UNSOUND};
 
+pub const ADVANCE: u16 = 9;
+pub const SET_BOOST: u16 = 10;
 pub const OFFLINE_ALL: u16 = 11;
 pub const BUILD_APART: u16 = 12;
 
@@ -29,8 +33,11 @@ pub struct Reads {
     pub slice: u64,
     pub sound: bool,
     pub holder: Option<(u16, u32)>,
-    pub violation: Option<Violation>,
-    pub next: Decision,
+    pub verdict: Verdict,
+    /// Not asked of a system that is not sound.
+    pub next: Option<Decision>,
+    /// What is kept at the slot of the ids, within the counts or not.
+    pub kept: [u64; 8],
 }
 
 /// What a record is told, and what can then be read at its ids; no reads without a host.
@@ -43,8 +50,11 @@ pub struct Answered {
 pub fn examine(replay: &mut Replay, bytes: &[u8]) -> Option<Answered> {
     let record = Record::read(bytes);
     let told = match record {
-        Some(r) if r.kind == OFFLINE_ALL => offline_all(replay, r),
         Some(r) if r.kind == BUILD_APART => build_apart(replay, r),
+        Some(r) if names_field(r.kind) => write_field(replay, r),
+        Some(r) if wants_sound(r.kind) && replay.host.as_ref().is_some_and(unsound) => told(UNSOUND),
+        Some(r) if r.kind == OFFLINE_ALL => offline_all(replay, r),
+        Some(r) if r.kind == SET_BOOST => set_boost(replay, bytes)?,
         _ => replay.tell(bytes)?,
     };
     let Some(host) = &replay.host else { return Some(Answered { told, reads: None }) };
@@ -62,6 +72,26 @@ pub fn write(out: &mut Vec<u8>, count: u64, answered: &Answered) {
         out.push(b' ');
         numbers(out, &line);
     }
+}
+
+/// Transitions, `advance` and `offline_all`; a weight and boost are the policy's.
+fn wants_sound(kind: u16) -> bool {
+    matches!(kind, 1..=7 | ADVANCE | OFFLINE_ALL)
+}
+
+fn unsound(host: &Host) -> bool {
+    verdict(host) != Verdict::Sound
+}
+
+fn write_field(replay: &mut Replay, r: Record) -> Told {
+    let Some(host) = replay.host.as_mut() else { return told(BAD_SCRIPT) };
+    fields::write(host, r);
+    told(DONE)
+}
+
+fn set_boost(replay: &mut Replay, bytes: &[u8]) -> Option<Told> {
+    replay.host.iter_mut().for_each(fields::clear_offsets);
+    replay.tell(bytes)
 }
 
 fn offline_all(replay: &mut Replay, r: Record) -> Told {
@@ -82,21 +112,25 @@ fn build_apart(replay: &mut Replay, r: Record) -> Told {
     if shape.iter().zip(sizes).any(|(n, size)| *n > size) {
         return told(TOO_LARGE);
     }
-    let [domains, vcpus, pcpus, policy_domains, policy_vcpus] = shape.map(|n| n as usize);
-    let system = System::new(domains, vcpus, pcpus);
-    replay.host = Some(Host { system, policy: Scheduler::new(policy_domains, policy_vcpus, slice) });
+    replay.host = Some(Host::new([shape[0], shape[1], shape[2]], [policy_domains, policy_vcpus], slice));
     told(DONE)
 }
 
 fn reads(host: &Host, r: Record) -> Option<Reads> {
     let (s, d, v) = (&host.system, r.domain, r.vcpu);
+    let verdict = verdict(host);
+    let next = match verdict {
+        Verdict::Sound => Some(unless_overflow(|| host.policy.next(s, r.value))?),
+        _ => None,
+    };
     Some(Reads {
         state: s.state_of(d, v),
         running: s.is_running(d, v),
         ran: s.runtime(d, v),
         since: s.on_cpu_since(d, v),
         mask: s.affinity_of(d, v),
-        permits: s.affinity_permits(d, v, r.third),
+        // a mask as written may have bits past the count, where upstream goes by the bit
+        permits: s.affinity_permits(d, v, r.third) && (host.tables.is_none() || (r.third as usize) < s.pcpu_count()),
         weight: host.policy.weight_of(d, v),
         vcpus: s.vcpu_count(d),
         full_mask: s.full_affinity(),
@@ -105,17 +139,18 @@ fn reads(host: &Host, r: Record) -> Option<Reads> {
         pcpus: s.pcpu_count(),
         busy: s.busy_pcpus(),
         slice: host.policy.quantum(),
-        sound: s.invariants_hold(),
+        sound: s.invariants_hold() && verdict != Verdict::Oversize,
         holder: s.occupant(r.third),
-        violation: s.first_violation(),
-        next: unless_overflow(|| host.policy.next(s, r.value))?,
+        verdict,
+        next,
+        kept: fields::kept(host, r),
     })
 }
 
 impl Reads {
     /// As the program writes them.
-    fn lines(&self) -> [[u64; 8]; 4] {
-        [self.vcpu(), self.domain(), self.whole(), self.decided()]
+    fn lines(&self) -> [[u64; 8]; 5] {
+        [self.vcpu(), self.domain(), self.whole(), self.decided(), self.kept]
     }
 
     fn vcpu(&self) -> [u64; 8] {
@@ -137,9 +172,9 @@ impl Reads {
     }
 
     fn decided(&self) -> [u64; 8] {
-        let (wrong, next) = (violation(self.violation), decision(self.next));
-        // upstream's `next` is told nothing: it refuses no system
-        [wrong[0], wrong[1], wrong[2], u64::from(DONE), next[0], next[1], next[2], next[3]]
+        let (wrong, next) = (wrong(self.verdict), decision(self.next.unwrap_or(Decision::Idle)));
+        let told = u64::from(if self.next.is_some() { DONE } else { UNSOUND });
+        [wrong[0], wrong[1], wrong[2], told, next[0], next[1], next[2], next[3]]
     }
 }
 
@@ -157,15 +192,15 @@ fn state(state: Option<RunState>) -> u64 {
     }
 }
 
-// 1 is Oversize, which upstream does not have
-fn violation(found: Option<Violation>) -> [u64; 3] {
-    match found {
-        None => [0; 3],
-        Some(Violation::RunningGhostPcpu { dom, vcpu }) => [2, dom as u64, vcpu as u64],
-        Some(Violation::OccupancyBroken { dom, vcpu }) => [3, dom as u64, vcpu as u64],
-        Some(Violation::RunningOffAffinity { dom, vcpu }) => [4, dom as u64, vcpu as u64],
-        Some(Violation::OccupantGhost { pcpu }) => [5, pcpu as u64, 0],
-        Some(Violation::OccupantNotRunning { pcpu }) => [6, pcpu as u64, 0],
+fn wrong(verdict: Verdict) -> [u64; 3] {
+    match verdict {
+        Verdict::Sound => [0; 3],
+        Verdict::Oversize => [1, 0, 0],
+        Verdict::Breach(Violation::RunningGhostPcpu { dom, vcpu }) => [2, dom as u64, vcpu as u64],
+        Verdict::Breach(Violation::OccupancyBroken { dom, vcpu }) => [3, dom as u64, vcpu as u64],
+        Verdict::Breach(Violation::RunningOffAffinity { dom, vcpu }) => [4, dom as u64, vcpu as u64],
+        Verdict::Breach(Violation::OccupantGhost { pcpu }) => [5, pcpu as u64, 0],
+        Verdict::Breach(Violation::OccupantNotRunning { pcpu }) => [6, pcpu as u64, 0],
     }
 }
 

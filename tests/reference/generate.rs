@@ -3,6 +3,10 @@ use crate::examine::{examine, BUILD_APART, OFFLINE_ALL};
 use crate::sched::RunState;
 use crate::script::{Host, Record, Replay, RECORD, SIZES};
 
+// a part of this generator, in a file of its own
+#[path = "damage.rs"]
+mod damage;
+
 pub struct Rng(u64);
 
 impl Rng {
@@ -76,13 +80,18 @@ pub struct Generator {
     ahead: Vec<Record>,
     /// How often upstream's sum overflowed.
     overflows: u64,
+    /// Of hosts whose fields are written with no test: one harm in so many is done, and looks that stand out, the
+    /// last first.
+    wear: u64,
+    looks: Vec<Record>,
 }
 
 impl Generator {
     pub fn new(seed: u64, small: bool) -> Generator {
         let mut rng = Rng::new(seed);
         let style = style(&mut rng);
-        Generator { rng, small, replay: Replay::default(), style, clock: 0, age: 0, ahead: Vec::new(), overflows: 0 }
+        let (replay, ahead, looks) = (Replay::default(), Vec::new(), Vec::new());
+        Generator { rng, small, replay, style, clock: 0, age: 0, ahead, overflows: 0, wear: 1, looks }
     }
 
     /// The next record.
@@ -106,6 +115,7 @@ impl Generator {
         }
         self.overflows += 1;
         self.ahead.clear();
+        self.looks.clear();
         let bytes = Record { kind: 0, domain: 1, vcpu: 2, third: 1, value: 10 }.bytes();
         tell(&mut self.replay, &bytes);
         bytes
@@ -238,7 +248,7 @@ impl Generator {
     /// One vCPU sleeps through an advance and wakes with the largest weight among small ones: its offset is
     /// then some 2^32 times the floor. Three rungs lead from 2^64 to where products and offsets are held.
     fn rung(&mut self) {
-        let vcpus = self.replay.host.as_ref().map_or(1, |h| h.system.vcpu_count(0)) as u32;
+        let vcpus = self.replay.host.as_ref().map_or(1, |h| h.system.vcpu_count(0).max(1)) as u32;
         let sleeper = self.age as u32 % vcpus;
         let call = |kind, vcpu, third, value| Record { kind, domain: 0, vcpu, third, value };
         let weight = |vcpu| call(8, vcpu, if vcpu == sleeper { u32::MAX } else { 1 }, 0);
@@ -330,7 +340,8 @@ impl Generator {
         let beyond = 1 << (count + self.rng.below(64 - count.min(63))).min(63);
         let (one, any) = (1 << self.rng.below(count.clamp(1, 64)), self.rng.draw());
         let held = match host.system.state_of(domain, vcpu) {
-            Some(RunState::Running { pcpu }) => 1 << pcpu,
+            // a state as written may name any pCPU
+            Some(RunState::Running { pcpu }) => 1u64.checked_shl(pcpu).unwrap_or(0),
             _ => one,
         };
         self.rng.pick(&[0, one, one, held, any, any | held, any & !held, beyond, beyond | one, LARGE, LARGE])
@@ -414,6 +425,11 @@ pub fn bounded(seed: u64, calls: usize, small: bool, budget: u64) -> (Vec<u8>, u
 /// Records for `examine`, in the same way.
 pub fn examined(seed: u64, calls: usize, small: bool, budget: u64) -> (Vec<u8>, u64) {
     drawn(seed, calls, small, budget, Generator::examined)
+}
+
+/// Records for `examine` that write fields with no test, in the same way.
+pub fn damaged(seed: u64, calls: usize, small: bool, budget: u64) -> (Vec<u8>, u64) {
+    drawn(seed, calls, small, budget, Generator::damaged)
 }
 
 type Next = fn(&mut Generator) -> [u8; RECORD];

@@ -3,19 +3,24 @@
 //!   reference replay               records from standard input, a line for each
 //!   reference trace                the same, and the host after each
 //!   reference examine              records of `examine`, and every read after each
-//!   reference generate SEED CALLS [small | examined]
+//!   reference generate SEED CALLS [small | examined | damaged]
 //!                                  a random script; with `small`, on hosts of a few vCPUs; with `examined`,
-//!                                  records of `examine` on such hosts
+//!                                  records of `examine` on such hosts; with `damaged`, such records that write
+//!                                  fields with no test
 //!   reference compare SEED CALLS SECONDS TRACE REPLAY FOLDER
 //!                                  random scripts through upstream and the two programs; a difference is
 //!                                  left in FOLDER, as `records` and upstream's `lines`
 //!   reference reads SEED RECORDS SECONDS EXAMINE FOLDER
 //!                                  random records of `examine` through upstream and the program, in the same way
-//!   reference reached              whether the records of standard input reach every outcome of every read
+//!   reference damage SEED RECORDS SECONDS EXAMINE FOLDER
+//!                                  the same with records that write fields with no test
+//!   reference reached [damaged]    whether the records of standard input reach every outcome of every read; with
+//!                                  `damaged`, every verdict and what else such records have to reach
 extern crate alloc;
 mod calls;
 mod comparison;
 mod examine;
+mod fields;
 mod generate;
 mod lines;
 mod outcomes;
@@ -26,6 +31,7 @@ mod sched;
 mod script;
 mod shrink;
 mod tally;
+mod verdicts;
 
 use comparison::Comparison;
 use script::{Replay, RECORD};
@@ -45,21 +51,25 @@ fn main() -> ExitCode {
         ["generate", seed, calls, "examined"] => {
             print(&generate::examined(number(seed), number(calls) as usize, true, u64::MAX).0)
         }
+        ["generate", seed, calls, "damaged"] => {
+            print(&generate::damaged(number(seed), number(calls) as usize, true, u64::MAX).0)
+        }
         ["compare", seed, calls, seconds, trace, replay, folder] => {
             calls::compare(&comparison([seed, calls, seconds], &[trace, replay], folder))
         }
         ["reads", seed, records, seconds, examine, folder] => {
             reads::compare(&comparison([seed, records, seconds], &[examine], folder))
         }
-        ["reached"] => {
-            let mut script = Vec::new();
-            std::io::stdin().read_to_end(&mut script).unwrap();
-            reads::reached(&script)
+        ["damage", seed, records, seconds, examine, folder] => {
+            verdicts::compare(&comparison([seed, records, seconds], &[examine], folder))
         }
+        ["reached"] => reads::reached::<reads::Called>(&input()),
+        ["reached", "damaged"] => reads::reached::<verdicts::Damaged>(&input()),
         _ => {
-            eprintln!("usage: reference replay | trace | examine | reached | generate SEED CALLS [small | examined]");
+            eprintln!("usage: reference replay | trace | examine | reached [damaged]");
+            eprintln!("       reference generate SEED CALLS [small | examined | damaged]");
             eprintln!("       reference compare SEED CALLS SECONDS TRACE REPLAY FOLDER");
-            eprintln!("       reference reads SEED RECORDS SECONDS EXAMINE FOLDER");
+            eprintln!("       reference reads | damage SEED RECORDS SECONDS EXAMINE FOLDER");
             ExitCode::from(2)
         }
     }
@@ -72,6 +82,12 @@ fn number(word: &str) -> u64 {
 fn comparison<'a>(numbers: [&str; 3], programs: &'a [&'a str], folder: &'a str) -> Comparison<'a> {
     let [seed, records, seconds] = numbers.map(number);
     Comparison { seed, records, seconds, programs, folder }
+}
+
+fn input() -> Vec<u8> {
+    let mut script = Vec::new();
+    std::io::stdin().read_to_end(&mut script).unwrap();
+    script
 }
 
 fn print(script: &[u8]) -> ExitCode {

@@ -1,4 +1,5 @@
 //! What a read, or a kind that only `examine` has, can answer, and how often each was seen.
+use crate::fields::Verdict;
 use crate::examine::{Reads, BUILD_APART, OFFLINE_ALL};
 use crate::policy::Decision;
 use crate::sched::RunState;
@@ -15,17 +16,23 @@ pub struct Seen<'a> {
     /// Whether a vCPU of the record's domain ran before it.
     pub ran: bool,
     pub apart: Apart,
+    /// The verdict on the host that the record found.
+    pub before: Option<Verdict>,
     pub host: Option<&'a Host>,
     pub reads: Option<&'a Reads>,
 }
 
 /// When an outcome is seen: in the reads, or in a record that finds no host.
-enum When {
+pub enum When {
     Read(fn(&Reads, &Seen) -> bool),
     NoHost(fn(&Seen) -> bool),
 }
 
-const OUTCOMES: &[(&str, When)] = &[
+/// An outcome's name, and when it is seen.
+pub type Outcome = (&'static str, When);
+
+/// Of the reads of hosts that calls made.
+pub const READS: &[Outcome] = &[
     ("vCPU out of range", Read(|read, _| read.state.is_none())),
     ("Offline", Read(|read, _| read.state == Some(RunState::Offline))),
     ("Runnable", Read(|read, _| read.state == Some(RunState::Runnable))),
@@ -47,10 +54,13 @@ const OUTCOMES: &[(&str, When)] = &[
     ("pCPU held", Read(|read, _| read.holder.is_some())),
     ("pCPU idle", Read(|read, seen| read.holder.is_none() && seen.pcpu() < read.pcpus)),
     ("pCPU out of range", Read(|read, seen| seen.pcpu() >= read.pcpus)),
-    ("next is Run", Read(|read, _| matches!(read.next, Decision::Run { .. }))),
-    ("next is Preempt", Read(|read, _| matches!(read.next, Decision::Preempt { .. }))),
-    ("next is Idle", Read(|read, _| read.next == Decision::Idle)),
-    ("next is Idle while some wait", Read(|read, seen| read.next == Decision::Idle && seen.host.is_some_and(waits))),
+    ("next is Run", Read(|read, _| matches!(read.next, Some(Decision::Run { .. })))),
+    ("next is Preempt", Read(|read, _| matches!(read.next, Some(Decision::Preempt { .. })))),
+    ("next is Idle", Read(|read, _| read.next == Some(Decision::Idle))),
+    (
+        "next is Idle while some wait",
+        Read(|read, seen| read.next == Some(Decision::Idle) && seen.host.is_some_and(waits)),
+    ),
     ("offline_all frees a pCPU", Read(|_, seen| seen.all_off() && seen.ran)),
     ("offline_all of a bad domain", Read(|read, seen| seen.all_off() && seen.bad_domain(read))),
     ("offline_all without a host", NoHost(|seen| seen.is(OFFLINE_ALL, BAD_SCRIPT))),
@@ -71,7 +81,7 @@ impl When {
 }
 
 impl Seen<'_> {
-    fn is(&self, kind: u16, answer: u8) -> bool {
+    pub fn is(&self, kind: u16, answer: u8) -> bool {
         self.record.kind == kind && self.told.answer == answer
     }
 
@@ -79,7 +89,7 @@ impl Seen<'_> {
         self.is(OFFLINE_ALL, DONE)
     }
 
-    fn pcpu(&self) -> usize {
+    pub fn pcpu(&self) -> usize {
         self.record.third as usize
     }
 
@@ -108,30 +118,29 @@ fn waits(host: &Host) -> bool {
 }
 
 pub struct Outcomes {
-    counts: [u64; OUTCOMES.len()],
-}
-
-impl Default for Outcomes {
-    fn default() -> Outcomes {
-        Outcomes { counts: [0; OUTCOMES.len()] }
-    }
+    list: &'static [Outcome],
+    counts: Vec<u64>,
 }
 
 impl Outcomes {
+    pub fn new(list: &'static [Outcome]) -> Outcomes {
+        Outcomes { list, counts: vec![0; list.len()] }
+    }
+
     pub fn note(&mut self, seen: &Seen) {
-        for ((_, when), n) in OUTCOMES.iter().zip(&mut self.counts) {
+        for ((_, when), n) in self.list.iter().zip(&mut self.counts) {
             *n += u64::from(when.holds(seen));
         }
     }
 
     pub fn print(&self) {
-        for ((name, _), n) in OUTCOMES.iter().zip(self.counts) {
-            println!("{name:>36} {n:>9}");
+        for ((name, _), n) in self.list.iter().zip(&self.counts) {
+            println!("{name:>52} {n:>9}");
         }
     }
 
     pub fn unreached(&self) -> Vec<String> {
-        let unseen = OUTCOMES.iter().zip(self.counts).filter(|(_, n)| *n == 0);
+        let unseen = self.list.iter().zip(&self.counts).filter(|(_, n)| **n == 0);
         unseen.map(|((name, _), _)| name.to_string()).collect()
     }
 }

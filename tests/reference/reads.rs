@@ -1,22 +1,25 @@
 //! Random records for `examine`: every answer, every read.
 use crate::comparison::{length, shortfall, Comparison, Output, Reached, BUDGET};
 use crate::examine::{examine, policy_shape, write, BUILD_APART};
+use crate::fields::verdict;
 use crate::generate::{examined, Rng};
-use crate::outcomes::{Apart, Outcomes, Seen};
+use crate::outcomes::{Apart, Outcome, Outcomes, Seen, READS};
 use crate::script::{Host, Record, Replay, Told, DONE, RECORD};
+use crate::tally::{Row, Tally};
+use std::marker::PhantomData;
 use std::process::ExitCode;
 
 pub fn compare(comparison: &Comparison) -> ExitCode {
     let mut rng = Rng::new(comparison.seed);
-    comparison.run::<Records>(|| {
+    comparison.run::<Records<Called>>(|| {
         let seed = rng.draw();
         examined(seed, length(&mut rng), false, BUDGET)
     })
 }
 
-/// Tells whether some records reach every outcome.
-pub fn reached(script: &[u8]) -> ExitCode {
-    let mut records = Records::default();
+/// Tells whether some records reach every outcome of their sort.
+pub fn reached<S: Sort>(script: &[u8]) -> ExitCode {
+    let mut records = Records::<S>::default();
     records.account(script);
     match shortfall(&records) {
         Some(shortfall) => {
@@ -27,12 +30,33 @@ pub fn reached(script: &[u8]) -> ExitCode {
     }
 }
 
-#[derive(Default)]
-struct Records {
-    outcomes: Outcomes,
+/// What records of one sort have to reach.
+pub trait Sort {
+    const OUTCOMES: &'static [Outcome];
+    const ANSWERS: &'static [Row];
 }
 
-impl Reached for Records {
+/// On hosts that calls made.
+pub struct Called;
+
+impl Sort for Called {
+    const OUTCOMES: &'static [Outcome] = READS;
+    const ANSWERS: &'static [Row] = &[];
+}
+
+pub struct Records<S> {
+    outcomes: Outcomes,
+    answers: Tally,
+    sort: PhantomData<S>,
+}
+
+impl<S: Sort> Default for Records<S> {
+    fn default() -> Records<S> {
+        Records { outcomes: Outcomes::new(S::OUTCOMES), answers: Tally::new(S::ANSWERS), sort: PhantomData }
+    }
+}
+
+impl<S: Sort> Reached for Records<S> {
     const RECORDS: &'static str = "records";
 
     fn account(&mut self, script: &[u8]) -> Vec<Output> {
@@ -40,13 +64,15 @@ impl Reached for Records {
         for (count, bytes) in (1..).zip(script.chunks(RECORD)) {
             let record = Record::read(bytes);
             let ran = record.zip(replay.host.as_ref()).is_some_and(|(r, host)| runs(host, r.domain));
+            let before = replay.host.as_ref().map(verdict);
             let Some(answered) = examine(&mut replay, bytes) else { break };
             write(&mut output.bytes, count, &answered);
             output.end_record();
+            self.answers.note(record, answered.told.answer);
             if let Some(record) = record {
                 let (told, host, reads) = (answered.told, replay.host.as_ref(), answered.reads.as_ref());
                 apart = apart_after(apart, record, told);
-                self.outcomes.note(&Seen { record, told, ran, apart, host, reads });
+                self.outcomes.note(&Seen { record, told, ran, apart, before, host, reads });
             }
         }
         vec![output]
@@ -57,11 +83,12 @@ impl Reached for Records {
     }
 
     fn print(&self) {
+        self.answers.print();
         self.outcomes.print();
     }
 
     fn unreached(&self) -> Vec<String> {
-        self.outcomes.unreached()
+        self.answers.unreached().into_iter().chain(self.outcomes.unreached()).collect()
     }
 }
 

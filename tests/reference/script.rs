@@ -1,4 +1,5 @@
 //! Records, and upstream's host behind them. Only the answers 7 and 9 are added here; all else is upstream's.
+use crate::fields::Tables;
 use crate::policy::Scheduler;
 use crate::sched::{SchedError, System};
 use std::panic::{catch_unwind, resume_unwind, AssertUnwindSafe};
@@ -6,7 +7,7 @@ use std::panic::{catch_unwind, resume_unwind, AssertUnwindSafe};
 pub const RECORD: usize = 20;
 /// Kinds of a script are numbers up to this.
 pub const LAST_KIND: u16 = 10;
-// the answers; 8 is Unsound, which upstream does not have
+// the answers; upstream has neither 7, 8 nor 9
 pub const DONE: u8 = 0;
 pub const BAD_DOMAIN: u8 = 1;
 pub const BAD_VCPU: u8 = 2;
@@ -15,6 +16,7 @@ pub const WRONG_STATE: u8 = 4;
 pub const PCPU_BUSY: u8 = 5;
 pub const NOT_AFFINE: u8 = 6;
 pub const TOO_LARGE: u8 = 7;
+pub const UNSOUND: u8 = 8;
 pub const BAD_SCRIPT: u8 = 9;
 /// Answers are numbers below this.
 pub const ANSWERS: usize = 10;
@@ -81,6 +83,22 @@ pub struct Told {
 pub struct Host {
     pub system: System,
     pub policy: Scheduler,
+    /// The system's counts and the policy's, which are above the sizes only if they were written with no test.
+    pub counts: [u64; 3],
+    pub policy_counts: [u64; 2],
+    /// What stands past the counts, once a field was written with no test.
+    pub tables: Option<Box<Tables>>,
+}
+
+impl Host {
+    /// Of counts within the sizes.
+    pub fn new(counts: [u64; 3], policy_counts: [u64; 2], slice: u64) -> Host {
+        let [domains, vcpus, pcpus] = counts.map(|n| n as usize);
+        let [policy_domains, policy_vcpus] = policy_counts.map(|n| n as usize);
+        let system = System::new(domains, vcpus, pcpus);
+        let policy = Scheduler::new(policy_domains, policy_vcpus, slice);
+        Host { system, policy, counts, policy_counts, tables: None }
+    }
 }
 
 /// A script under way: no host before its first successful build.
@@ -104,9 +122,7 @@ impl Replay {
         if shape.iter().zip(SIZES).any(|(n, size)| *n > size) {
             return told(TOO_LARGE);
         }
-        let [domains, vcpus, pcpus] = shape.map(|n| n as usize);
-        self.host =
-            Some(Host { system: System::new(domains, vcpus, pcpus), policy: Scheduler::new(domains, vcpus, r.value) });
+        self.host = Some(Host::new(shape, [shape[0], shape[1]], r.value));
         told(DONE)
     }
 
@@ -166,7 +182,7 @@ fn number(result: Result<(), SchedError>) -> u8 {
 const OVERFLOW: &str = "attempt to add with overflow";
 
 fn advance(host: &mut Host, now: u64) -> Option<u32> {
-    let Host { system, policy } = host;
+    let Host { system, policy, .. } = host;
     unless_overflow(|| policy.advance(system, now))
 }
 

@@ -1,19 +1,24 @@
 //! How often records were told what, kind by kind.
 use crate::script::{Record, ANSWERS, LAST_KIND};
 use crate::script::{BAD_DOMAIN, BAD_PCPU, BAD_SCRIPT, BAD_VCPU, DONE, NOT_AFFINE, PCPU_BUSY, TOO_LARGE, WRONG_STATE};
-use Of::{CutOff, Kind, KindAbove};
+use Of::{CutOff, Kind, KindAbove, Kinds};
 
 /// The records that a row counts.
-enum Of {
+pub enum Of {
     Kind(u16),
+    Kinds(u16, u16),
     KindAbove(u16),
     CutOff,
 }
+
+/// A row's name, the records that it counts, and what they can be told.
+pub type Row = (&'static str, Of, &'static [u8]);
 
 impl Of {
     fn counts(&self, record: Option<Record>) -> bool {
         match (self, record) {
             (Kind(kind), Some(r)) => r.kind == *kind,
+            (Kinds(first, last), Some(r)) => (*first..=*last).contains(&r.kind),
             (KindAbove(kind), Some(r)) => r.kind > *kind,
             (CutOff, None) => true,
             _ => false,
@@ -24,8 +29,8 @@ impl Of {
 const TRANSITION: &[u8] = &[DONE, BAD_DOMAIN, BAD_VCPU, WRONG_STATE, BAD_SCRIPT];
 const RUN: &[u8] = &[DONE, BAD_DOMAIN, BAD_VCPU, BAD_PCPU, WRONG_STATE, PCPU_BUSY, NOT_AFFINE, BAD_SCRIPT];
 
-/// Each row's name, the records that it counts, and what they can be told.
-const ROWS: &[(&str, Of, &[u8])] = &[
+/// Of the calls of a script.
+pub const CALLS: &[Row] = &[
     ("build", Kind(0), &[DONE, TOO_LARGE]),
     ("admit", Kind(1), TRANSITION),
     ("run", Kind(2), RUN),
@@ -41,27 +46,34 @@ const ROWS: &[(&str, Of, &[u8])] = &[
     ("cut off", CutOff, &[BAD_SCRIPT]),
 ];
 
-#[derive(Default)]
 pub struct Tally {
-    told: [[u64; ANSWERS]; ROWS.len()],
+    rows: &'static [Row],
+    told: Vec<[u64; ANSWERS]>,
 }
 
 impl Tally {
+    pub fn new(rows: &'static [Row]) -> Tally {
+        Tally { rows, told: vec![[0; ANSWERS]; rows.len()] }
+    }
+
     pub fn note(&mut self, record: Option<Record>, answer: u8) {
-        for ((_, of, _), told) in ROWS.iter().zip(&mut self.told) {
+        for ((_, of, _), told) in self.rows.iter().zip(&mut self.told) {
             told[usize::from(answer)] += u64::from(of.counts(record));
         }
     }
 
     pub fn print(&self) {
+        if self.rows.is_empty() {
+            return;
+        }
         println!("{:>9} {}", "told", columns(0..ANSWERS as u64));
-        for ((name, ..), told) in ROWS.iter().zip(&self.told) {
+        for ((name, ..), told) in self.rows.iter().zip(&self.told) {
             println!("{name:>9} {}", columns(told.iter().copied()));
         }
     }
 
     pub fn unreached(&self) -> Vec<String> {
-        let rows = ROWS.iter().zip(&self.told);
+        let rows = self.rows.iter().zip(&self.told);
         let cells = rows.flat_map(|((name, _, can), told)| can.iter().map(move |a| (name, a, told[usize::from(*a)])));
         cells.filter(|(_, _, n)| *n == 0).map(|(name, answer, _)| format!("{name} told {answer}")).collect()
     }

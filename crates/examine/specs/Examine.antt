@@ -1,12 +1,12 @@
--- What a record is told, two kinds more than those of a script, and what is written of it.
+-- What a record is told, with the kinds above those of a script, and what is written of it.
 use Prim.Native.Nat.{ℕ, _+_, _/_, _%_, _^_, _≤_}
 use mathlib.Core.Bool.{Bool, cond, _&&_, _||_}
 use mathlib.Core.Path.{_≡_}
 use mathlib.Core.List.{List, [], _++_}
-use lib.Dec.{eqb}
+use lib.Dec.{leb, eqb}
 use lib.ListN.{length}
 use Rattle.system.specs.declared.Answer.{Answer}
-use Rattle.system.specs.declared.Answer.the-variants.{Done, TooLarge}
+use Rattle.system.specs.declared.Answer.the-variants.{Done, TooLarge, BadScript}
 use Rattle.system.specs.Answers.{told}
 use Rattle.system.specs.Shape.{withinSizes}
 use Rattle.host.specs.declared.Host.{Host}
@@ -17,6 +17,7 @@ use Rattle.records.specs.declared.Record.{Record}
 use Rattle.records.specs.declared.MaybeCall.{MaybeCall}
 use Rattle.records.specs.declared.Plan.{Plan}
 use Rattle.records.specs.Records.{recordAt, afterBuild, planOf}
+use Rattle.test_fields.specs.Fields.{written}
 use Rattle.test_reads.specs.declared.Query.{Query}
 use Rattle.test_reads.specs.Reads.{readsText}
 use Rattle.script.specs.declared.Script.{Script}
@@ -52,9 +53,17 @@ unfoldable pub planned : Bool → List ℕ → Record → Plan
 planned built bs r =
     cond (eqb (r .kind) 11) (afterBuild built (MaybeCall.Some (Call.OfflineAll (r .dom) (r .value)))) (planOf built bs)
 
+-- kinds 13 to 28 write a field, if there is a host
+abbrev pub namesField : ℕ → Bool
+namesField k = leb 13 k && leb k 28
+
+abbrev pub fieldWritten : Host → Bool → Record → HostOutcome
+fieldWritten h built r = cond built (record { number = told Done; host = written r h; count = 0 }) (refused h BadScript)
+
 unfoldable pub answered : Host → Bool → List ℕ → Record → HostOutcome
 answered h built bs r =
-    cond (eqb (r .kind) 12) (apart h (r .dom) (r .vcpu) (r .third) (r .value)) (carried h (planned built bs r))
+    cond (eqb (r .kind) 12) (apart h (r .dom) (r .vcpu) (r .third) (r .value))
+    (cond (namesField (r .kind)) (fieldWritten h built r) (carried h (planned built bs r)))
 
 abbrev pub answeredBy : Script → List ℕ → HostOutcome
 answeredBy c bs = answered (c .host) (c .built) bs (recordAt bs)

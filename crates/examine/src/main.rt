@@ -1,6 +1,7 @@
 //! Reads records on standard input and writes what each is told and, once there is a host, all that
 //! can be read of it at the record's own ids, with its value for a clock. Kinds 0 to 10 are those of a
-//! script; 11 takes a domain offline, and 12 builds a host whose policy has a shape of its own.
+//! script; 11 takes a domain offline, 12 builds a host whose policy has a shape of its own, and 13 to 28
+//! write one field of the host with no test.
 
 ghost use mathlib.Core.Path.{_≡_};
 ghost use mathlib.Core.Bool.{true, _||_};
@@ -12,7 +13,7 @@ ghost use Rattle.host.specs.Outcomes.{hostOutcome};
 ghost use Rattle.script.specs.Script.{carried};
 ghost use Rattle.text.specs.Lines.{answerLine};
 ghost use Rattle.text.specs.Places.{Placed};
-ghost use Rattle.examine.specs.Examine.{queryOf, refused, made, apart, planned, answered, hostShown, Examined};
+ghost use Rattle.examine.specs.Examine.{queryOf, refused, made, apart, planned, namesField, fieldWritten, answered, hostShown, Examined};
 use host::Call;
 use host::Host;
 use host::Outcome;
@@ -124,11 +125,38 @@ fn plan_of(built: bool, bytes: &[u8], r: Record) -> Plan
     records::plan_of(built, bytes)
 }
 
+fn names_field(kind: u16) -> bool
+    ensures { λ b. ⌜ b ≡ namesField kind ⌝ }
+{
+    if kind >= test_fields::FIRST {
+        return kind <= test_fields::LAST;
+    }
+    false
+}
+
+// There has to be a host.
+fn field_written(h: Host, built: bool, r: Record) -> Outcome
+    ensures { λ x. ⌜ hostOutcome x ≡ fieldWritten h built r ⌝ }
+{
+    if built {
+        Outcome {
+            answer: Answer::Done,
+            host: test_fields::write(h, r),
+            count: 0,
+        }
+    } else {
+        refused(h, Answer::BadScript)
+    }
+}
+
 fn answered(h: Host, built: bool, bytes: &[u8], r: Record) -> Outcome
     ensures { λ x. ⌜ hostOutcome x ≡ answered h built (now (bytes .entry)) r ⌝ }
 {
     if r.kind == 12 {
         return apart(h, r.dom, r.vcpu, r.third, r.value);
+    }
+    if names_field(r.kind) {
+        return field_written(h, built, r);
     }
     by_plan(h, plan_of(built, bytes, r))
 }
@@ -152,7 +180,7 @@ fn put_answer(out: &mut [u8], number: u64, told: u64, moves: usize) -> usize
 }
 
 fn put_host(out: &mut [u8], at: usize, built: bool, h: Host, r: Record) -> usize
-    requires { ⌜ at + 676 ≤ length (now out) ⌝ }
+    requires { ⌜ at + 845 ≤ length (now out) ⌝ }
     ensures { λ x. ⌜ Placed (now (out .entry)) at (hostShown built h r) (now (out .exit)) x ⌝ }
 {
     if built {
@@ -163,7 +191,7 @@ fn put_host(out: &mut [u8], at: usize, built: bool, h: Host, r: Record) -> usize
 }
 
 fn examined(s: Script, bytes: &[u8], out: &mut [u8]) -> Written
-    requires { ⌜ 739 ≤ length (now out) ⌝ }
+    requires { ⌜ 908 ≤ length (now out) ⌝ }
     ensures { λ w. ⌜ Examined s (now (bytes .entry)) (now (out .entry)) w (now (out .exit)) ⌝ }
 {
     let r = records::record_at(bytes);
@@ -189,7 +217,7 @@ fn examined(s: Script, bytes: &[u8], out: &mut [u8]) -> Written
 // ---- the program
 
 fn turn(s: Script, record: &[u8], output: &mut [u8]) -> Script
-    requires { ⌜ 739 ≤ length (now output) ⌝ }
+    requires { ⌜ 908 ≤ length (now output) ⌝ }
 {
     let w = examined(s, record, output);
     let written = w.written;
@@ -199,7 +227,7 @@ fn turn(s: Script, record: &[u8], output: &mut [u8]) -> Script
 
 fn main() {
     let mut input = [0u8; 20];
-    let mut output = [0u8; 739];
+    let mut output = [0u8; 908];
     let mut s = Script::new();
     // a proved loop has to end, and nothing says that the input does
     let mut turns = u64::MAX;

@@ -1,6 +1,5 @@
 -- The numbers that stand for an answer which is no number.
 use Prim.Native.Nat.{ℕ, _+_}
-use mathlib.Core.Bool.{Bool, true, false}
 use mathlib.Core.List.{List, [], _∷_}
 use Rattle.system.specs.declared.RunState.the-variants.{Offline, Runnable, Running, Blocked}
 use Rattle.system.specs.declared.MaybeState.{MaybeState}
@@ -12,10 +11,6 @@ use Rattle.verdict.specs.declared.Violation.the-variants.{None, Oversize, Occup
 use Rattle.verdict.specs.declared.Violation.the-variants.{RunningGhostPcpu, OccupancyBroken, RunningOffAffinity}
 use Rattle.advance.specs.declared.Decision.{Decision}
 use Rattle.advance.specs.declared.Decision.the-variants.{Run, Preempt, Idle}
-
-abbrev pub bit : Bool → ℕ
-bit false = 0
-bit true = 1
 
 -- 0 where the ids are out of range; p + 4 while Running on p
 abbrev pub maybeStateNumber : MaybeState → ℕ

@@ -1,4 +1,4 @@
--- What can be read of a host, as four lines of numbers: each number is what the definition of a read answers.
+-- What can be read of a host, as five lines of numbers: each number is what the definition of a read answers.
 use Prim.Native.Nat.{ℕ, _+_, _≤_}
 use mathlib.Core.Bool.{Bool, cond}
 use mathlib.Core.Path.{_≡_}
@@ -16,10 +16,11 @@ use Rattle.policy.specs.declared.Scheduler.{Scheduler}
 use Rattle.policy.specs.Accounts.{weightOf}
 use Rattle.advance.specs.Advance.{next}
 use Rattle.usage.specs.Usage.{usage}
+use Rattle.test_fields.specs.Fields.{bit, kept}
 use Rattle.text.specs.Lines.{vcpuLine}
 use Rattle.text.specs.Places.{put, Placed}
 use Rattle.test_reads.specs.declared.Query.{Query}
-use Rattle.test_reads.specs.Numbers.{bit, maybeStateNumber, maybeNumbers, holderNumbers, violationNumbers, decisionNumbers}
+use Rattle.test_reads.specs.Numbers.{maybeStateNumber, maybeNumbers, holderNumbers, violationNumbers, decisionNumbers}
 
 -- the vCPU: its state, whether it runs, its run time, since when it is on its pCPU, its mask
 unfoldable pub vcpuNumbers : System → Query → List ℕ
@@ -60,10 +61,11 @@ readsText s π q =
     ++ vcpuLine (domainNumbers s π q)
     ++ vcpuLine (hostNumbers s π (q .pcpu))
     ++ vcpuLine (moveNumbers s π (q .clock))
+    ++ vcpuLine (kept s π (q .dom) (q .vcpu))
 
--- there is room for four lines at index `at`
+-- there is room for five lines at index `at`
 abbrev pub roomy : List ℕ → ℕ → Bool
-roomy out at = leb (at + 676) (length out)
+roomy out at = leb (at + 845) (length out)
 
 -- their text put there, and the index past it
 abbrev pub readsPut : List ℕ → ℕ → List ℕ → List ℕ
@@ -73,8 +75,8 @@ abbrev pub readsEnd : List ℕ → ℕ → List ℕ → ℕ
 readsEnd out at t = cond (roomy out at) (at + length t) at
 
 -- where there is room, they stand there
-pub reads-placed : {out t after : List ℕ} {at end : ℕ} → at + 676 ≤ length out → after ≡ readsPut out at t → end ≡ readsEnd out at t
+pub reads-placed : {out t after : List ℕ} {at end : ℕ} → at + 845 ≤ length out → after ≡ readsPut out at t → end ≡ readsEnd out at t
     → Placed out at t after end
 reads-placed {out} {at = at} h e f =
-    let there = le-leb (at + 676) (length out) h in
+    let there = le-leb (at + 845) (length out) h in
     record { bytes = rw there at e; past = rw there at f }

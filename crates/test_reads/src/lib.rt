@@ -1,12 +1,12 @@
-//! What can be read of a host, as four lines of eight numbers: a vCPU, its domain, the host with one
-//! pCPU, and the verdict with the next move.
+//! What can be read of a host, as five lines of eight numbers: a vCPU, its domain, the host with one
+//! pCPU, the verdict with the next move, and what is kept at the slot.
 
 ghost use mathlib.Core.Path.{_≡_};
 ghost use Prim.Native.Nat.{_+_, _≤_};
 ghost use lib.ListN.{length};
 ghost use Rattle.text.specs.Lines.{vcpuLine};
 ghost use Rattle.text.specs.Places.{Placed};
-ghost use Rattle.test_reads.specs.Numbers.{bit, maybeStateNumber, maybeNumbers, holderNumbers, violationNumbers, decisionNumbers};
+ghost use Rattle.test_reads.specs.Numbers.{maybeStateNumber, maybeNumbers, holderNumbers, violationNumbers, decisionNumbers};
 ghost use Rattle.test_reads.specs.Reads.{vcpuNumbers, domainNumbers, hostNumbers, moveNumbers, readsText, readsPut, readsEnd};
 use advance::Decision;
 use host::Host;
@@ -21,10 +21,12 @@ use system::RunState;
 use system::System;
 use system::Ticks;
 use system::Vcpu;
+use test_fields::bit;
+use test_fields::wide;
 use verdict::Violation;
 
-/// The most bytes that the four lines take.
-pub const ROOM: usize = 676;
+/// The most bytes that the five lines take.
+pub const ROOM: usize = 845;
 
 /// What is asked about: a vCPU, a pCPU and a clock.
 pub struct Query {
@@ -35,18 +37,6 @@ pub struct Query {
 }
 
 // ---- numbers for what is no number
-
-fn wide(n: u32) -> u64
-    ensures { λ r. ⌜ r ≡ n ⌝ }
-{
-    n as u64
-}
-
-fn bit(b: bool) -> u64
-    ensures { λ r. ⌜ r ≡ bit b ⌝ }
-{
-    if b { 1 } else { 0 }
-}
 
 fn maybe_state_number(found: MaybeState) -> u64
     ensures { λ r. ⌜ r ≡ maybeStateNumber found ⌝ }
@@ -188,13 +178,14 @@ fn put_numbers(out: &mut [u8], at: usize, numbers: [u64; 8]) -> usize
 }
 
 fn put_reads(out: &mut [u8], at: usize, s: System, p: Scheduler, q: Query) -> usize
-    requires { ⌜ at + 676 ≤ length (now out) ⌝ }
+    requires { ⌜ at + 845 ≤ length (now out) ⌝ }
     ensures { λ r. ⌜ Placed (now (out .entry)) at (readsText s p q) (now (out .exit)) r ⌝ }
 {
     let a = put_numbers(out, at, vcpu_numbers(s, q));
     let b = put_numbers(out, a, domain_numbers(s, p, q));
     let c = put_numbers(out, b, host_numbers(s, p, q.pcpu));
-    put_numbers(out, c, move_numbers(s, p, q.clock))
+    let d = put_numbers(out, c, move_numbers(s, p, q.clock));
+    put_numbers(out, d, test_fields::kept(s, p, q.dom, q.vcpu))
 }
 
 /// Puts what can be read of a host at index `at`, if ROOM bytes are left there, and answers the

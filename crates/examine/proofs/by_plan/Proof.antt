@@ -14,7 +14,7 @@ returns-2 c = rw (c .before .before .plan2 .given .1) (c .new .ensures)
 
 returns-3 : tie.Need-returns-3
 unfolding carried
-returns-3 c = rw (c .before .before .plan3 .given .1) (c .step .ensures)
+returns-3 c = rw (c .before .before .plan3 .given .1) (c .step .ensures .0)
 
 pub by-plan-spec : {M : Type 1} → statement M
 by-plan-spec =

@@ -3,7 +3,7 @@ use mathlib.Core.Path.{refl, _∙_, ap, ap₂}
 use mathlib.Core.List.{_∷_}
 use borrow.Author.Needs.{needs}
 use Rattle.usage.specs.Usage.{usage}
-use Rattle.test_reads.specs.Numbers.{bit}
+use Rattle.test_fields.specs.Fields.{bit}
 use Rattle.test_reads.specs.Reads.{domainNumbers}
 use Rattle.test_reads.proofs.Parts.{limbs-last}
 use Rattle.test_reads.proofs.domain_numbers.Statement.{statement}

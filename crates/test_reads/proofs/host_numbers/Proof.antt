@@ -2,7 +2,7 @@
 use mathlib.Core.Path.{_∙_, ap, ap₂}
 use mathlib.Core.List.{_∷_}
 use borrow.Author.Needs.{needs}
-use Rattle.test_reads.specs.Numbers.{bit}
+use Rattle.test_fields.specs.Fields.{bit}
 use Rattle.test_reads.specs.Reads.{hostNumbers}
 use Rattle.test_reads.proofs.Parts.{holder-last}
 use Rattle.test_reads.proofs.host_numbers.Statement.{statement}

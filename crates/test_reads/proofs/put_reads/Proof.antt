@@ -14,7 +14,8 @@ use Rattle.test_reads.proofs.put_reads.Tie as tie
 returns : tie.Need-returns
 unfolding readsText
 returns c =
-    let moves = c .before .before in
+    let slot = c .before .before in
+    let moves = slot .before .before .before .before .before in
     let host = moves .before .before .before .before .before in
     let domain = host .before .before .before .before .before in
     let vcpu = domain .before .before .before .before .before in
@@ -23,15 +24,19 @@ returns c =
     placed-then room
     (placed-then room
     (placed-then room
+    (placed-then room
     (placed-as (vcpu .put-numbers .ensures .0) (ap vcpuLine (vcpu .before .vcpu-numbers .ensures)) refl refl)
     (placed-as (domain .put-numbers2 .ensures .0) (ap vcpuLine (domain .before .domain-numbers .ensures)) refl refl))
     (placed-as (host .put-numbers3 .ensures .0) (ap vcpuLine (host .before .host-numbers .ensures)) refl refl))
-    (placed-as (moves .put-numbers4 .ensures .0) (ap vcpuLine (moves .before .move-numbers .ensures)) refl refl)
+    (placed-as (moves .put-numbers4 .ensures .0) (ap vcpuLine (moves .before .move-numbers .ensures)) refl refl))
+    (placed-as (slot .put-numbers5 .ensures .0) (ap vcpuLine (slot .before .kept .ensures)) refl refl)
 
 pub put-reads-spec : {M : Type 1} → statement M
 put-reads-spec =
     tie.close
     (tie.spec
+    (λ c κs. search needs)
+    (λ c κs. search needs)
     (λ c κs. search needs)
     (λ c κs. search needs)
     (λ c κs. search needs)

@@ -2,7 +2,8 @@
 use mathlib.Core.Path.{_∙_, ap, ap₂}
 use mathlib.Core.List.{_∷_}
 use borrow.Author.Needs.{needs}
-use Rattle.test_reads.specs.Numbers.{bit, maybeStateNumber}
+use Rattle.test_fields.specs.Fields.{bit}
+use Rattle.test_reads.specs.Numbers.{maybeStateNumber}
 use Rattle.test_reads.specs.Reads.{vcpuNumbers}
 use Rattle.test_reads.proofs.Parts.{maybe-then, maybe-last}
 use Rattle.test_reads.proofs.vcpu_numbers.Statement.{statement}
