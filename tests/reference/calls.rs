@@ -3,7 +3,7 @@ use crate::comparison::{length, Comparison, Output, Reached, BUDGET};
 use crate::generate::{bounded, Rng};
 use crate::lines;
 use crate::script::{Record, Replay, RECORD};
-use crate::tally::{Tally, CALLS};
+use crate::tally::{calls, Tally};
 use std::process::ExitCode;
 
 pub fn compare(comparison: &Comparison) -> ExitCode {
@@ -23,7 +23,7 @@ struct Calls {
 
 impl Default for Calls {
     fn default() -> Calls {
-        Calls { moves: 0, states: 0, answers: Tally::new(CALLS) }
+        Calls { moves: 0, states: 0, answers: Tally::new(calls()) }
     }
 }
 

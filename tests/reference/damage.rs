@@ -1,14 +1,12 @@
 //! Random records that write fields with no test: hosts are damaged, repaired violation by violation, called in
 //! between, and looked at slot by slot. Part of the generator, whose host they are drawn for.
-use super::{Generator, LARGE};
+use super::{Generator, LARGE, LOOK};
 use crate::examine::examine;
 use crate::fields::{oversize, verdict, Verdict, DISPATCH, DOMAIN_COUNT, MASK, OCCUPANT, OFFSET_HIGH, OFFSET_LOW};
 use crate::fields::{PCPU_COUNT, POLICY_DOMAINS, POLICY_VCPUS, RUN_TIME, SLICE, STATE, WEIGHT};
 use crate::sched::{RunState, Violation};
 use crate::script::{Host, Record, RECORD, SIZES};
 
-/// A record that is no call: it is told 9, and read after as any other.
-const LOOK: u16 = u16::MAX;
 // what harms is mostly a state or a holder
 const HARMS: [u64; 24] = [
     13, 13, 13, 13, 13, 13, 13, 16, 16, 16, 17, 17, 17, 17, 17, 17, 17, 18, 19, 20, 14, 15, 21, 22,

@@ -5,7 +5,7 @@
 use crate::lines::{answer, numbers};
 use crate::fields::{self, names_field, verdict, Verdict};
 use crate::policy::Decision;
-use crate::sched::{RunState, Violation};
+use crate::sched::{RunState, System, Violation};
 use crate::script::{told, unless_overflow, Host, Record, Replay, Told, BAD_SCRIPT, DONE, SIZES, TOO_LARGE, UNSOUND};
 
 pub const ADVANCE: u16 = 9;
@@ -25,7 +25,7 @@ pub struct Reads {
     /// How many vCPUs the domain has.
     pub vcpus: usize,
     pub full_mask: u64,
-    /// The sum of the domain's run times: upstream has no usage.
+    /// The sum of the domain's run times up to the record's value: upstream has no usage.
     pub used: u128,
     pub domains: usize,
     pub pcpus: usize,
@@ -75,7 +75,7 @@ pub fn write(out: &mut Vec<u8>, count: u64, answered: &Answered) {
 }
 
 /// Transitions, `advance` and `offline_all`; a weight and boost are the policy's.
-fn wants_sound(kind: u16) -> bool {
+pub fn wants_sound(kind: u16) -> bool {
     matches!(kind, 1..=7 | ADVANCE | OFFLINE_ALL)
 }
 
@@ -134,7 +134,7 @@ fn reads(host: &Host, r: Record) -> Option<Reads> {
         weight: host.policy.weight_of(d, v),
         vcpus: s.vcpu_count(d),
         full_mask: s.full_affinity(),
-        used: (0..s.vcpu_count(d) as u32).map(|v| u128::from(s.runtime(d, v).unwrap())).sum(),
+        used: (0..s.vcpu_count(d) as u32).map(|v| until(s, d, v, r.value)).sum(),
         domains: s.domain_count(),
         pcpus: s.pcpu_count(),
         busy: s.busy_pcpus(),
@@ -145,6 +145,12 @@ fn reads(host: &Host, r: Record) -> Option<Reads> {
         next,
         kept: fields::kept(host, r),
     })
+}
+
+/// A vCPU's run time up to a reading, by upstream's own reads: closed, and since its dispatch while Running.
+fn until(s: &System, d: u16, v: u32, reading: u64) -> u128 {
+    let in_flight = s.on_cpu_since(d, v).map_or(0, |since| reading.saturating_sub(since));
+    u128::from(s.runtime(d, v).unwrap()) + u128::from(in_flight)
 }
 
 impl Reads {

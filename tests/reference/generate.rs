@@ -51,6 +51,8 @@ const CHURN: Mix = [(9, 30), (4, 22), (5, 24), (1, 7), (6, 5), (8, 5), (7, 4), (
 const CLIMB: Mix = [(9, 44), (8, 10), (4, 12), (5, 18), (1, 8), (6, 1), (7, 3), (2, 2), (3, 2), (10, 0)];
 
 const LARGE: u64 = u64::MAX;
+/// A record that is no call: it is told 9, and read after as any other.
+const LOOK: u16 = u16::MAX;
 
 /// What one host's part of a script is like.
 struct Style {
@@ -138,6 +140,9 @@ impl Generator {
             return self.build_apart();
         }
         let asked = self.asked();
+        if self.rng.one_in(12) {
+            return Record { kind: LOOK, ..asked };
+        }
         if self.rng.one_in(40) {
             return Record { kind: OFFLINE_ALL, value: self.tick(), ..asked };
         }
@@ -165,8 +170,18 @@ impl Generator {
         let (domain, vcpu) = self.target(7);
         let third = self.pcpu(domain, vcpu);
         let (later, jump) = (self.clock.saturating_add(self.rng.below(40)), self.jump());
-        let value = self.rng.pick(&[self.clock, later, later, later, jump]);
+        let dispatch = self.dispatch(domain);
+        let near = self.rng.pick(&[dispatch.saturating_sub(1), dispatch, dispatch.saturating_add(1)]);
+        let value = self.rng.pick(&[self.clock, later, later, later, jump, near]);
         Record { kind: 0, domain, vcpu, third, value }
+    }
+
+    /// When a Running vCPU of the domain was dispatched; the clock at hand if there is none.
+    fn dispatch(&mut self, domain: u16) -> u64 {
+        match self.replay.host.as_ref().map(|host| host.dispatches(domain)) {
+            Some(since) if !since.is_empty() => self.rng.pick(&since),
+            _ => self.clock,
+        }
     }
 
     /// A host whose policy has a shape of its own, now and then one that is too large.

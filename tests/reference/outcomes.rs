@@ -4,6 +4,7 @@ use crate::examine::{Reads, BUILD_APART, OFFLINE_ALL};
 use crate::policy::Decision;
 use crate::sched::RunState;
 use crate::script::{Host, Record, Told, BAD_SCRIPT, DONE, TOO_LARGE};
+use std::cmp::Ordering::{self, Equal, Greater, Less};
 use When::{NoHost, Read};
 
 /// The policy's domains and vCPUs, where they are not the system's.
@@ -49,6 +50,13 @@ pub const READS: &[Outcome] = &[
     ("full mask of 64 pCPUs", Read(|read, _| read.full_mask == u64::MAX)),
     ("full mask of none", Read(|read, _| read.full_mask == 0)),
     ("usage above 2^64", Read(|read, _| read.used >> 64 > 0)),
+    ("usage with nobody Running", Read(|read, seen| read.used > 0 && seen.dispatches().is_empty())),
+    ("usage before a dispatch", Read(|_, seen| seen.reads(Less))),
+    ("usage at a dispatch", Read(|_, seen| seen.reads(Equal))),
+    ("usage after a dispatch", Read(|_, seen| seen.reads(Greater))),
+    ("usage after one dispatch, before another", Read(|_, seen| seen.reads(Greater) && seen.reads(Less))),
+    ("usage at 0 while one is Running", Read(|_, seen| seen.reads_at(0))),
+    ("usage at 2^64 - 1 while one is Running", Read(|_, seen| seen.reads_at(u64::MAX))),
     ("busy pCPUs", Read(|read, _| read.busy > 0)),
     ("all pCPUs busy", Read(|read, _| read.busy > 0 && read.busy == read.pcpus)),
     ("pCPU held", Read(|read, _| read.holder.is_some())),
@@ -95,6 +103,20 @@ impl Seen<'_> {
 
     fn bad_domain(&self, read: &Reads) -> bool {
         usize::from(self.record.domain) >= read.domains
+    }
+
+    /// When each Running vCPU of the domain was dispatched.
+    fn dispatches(&self) -> Vec<u64> {
+        self.host.map_or(Vec::new(), |host| host.dispatches(self.record.domain))
+    }
+
+    /// Whether the reading is before, at or after one of these, by what it is to it.
+    pub fn reads(&self, order: Ordering) -> bool {
+        self.dispatches().iter().any(|since| self.record.value.cmp(since) == order)
+    }
+
+    fn reads_at(&self, reading: u64) -> bool {
+        self.record.value == reading && !self.dispatches().is_empty()
     }
 
     fn outside(&self) -> bool {

@@ -33,7 +33,7 @@ pub fn reached<S: Sort>(script: &[u8]) -> ExitCode {
 /// What records of one sort have to reach.
 pub trait Sort {
     const OUTCOMES: &'static [Outcome];
-    const ANSWERS: &'static [Row];
+    fn answers() -> Vec<Row>;
 }
 
 /// On hosts that calls made.
@@ -41,7 +41,10 @@ pub struct Called;
 
 impl Sort for Called {
     const OUTCOMES: &'static [Outcome] = READS;
-    const ANSWERS: &'static [Row] = &[];
+
+    fn answers() -> Vec<Row> {
+        Vec::new()
+    }
 }
 
 pub struct Records<S> {
@@ -52,7 +55,7 @@ pub struct Records<S> {
 
 impl<S: Sort> Default for Records<S> {
     fn default() -> Records<S> {
-        Records { outcomes: Outcomes::new(S::OUTCOMES), answers: Tally::new(S::ANSWERS), sort: PhantomData }
+        Records { outcomes: Outcomes::new(S::OUTCOMES), answers: Tally::new(S::answers()), sort: PhantomData }
     }
 }
 

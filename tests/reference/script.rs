@@ -99,6 +99,12 @@ impl Host {
         let policy = Scheduler::new(policy_domains, policy_vcpus, slice);
         Host { system, policy, counts, policy_counts, tables: None }
     }
+
+    /// When each Running vCPU of a domain was dispatched.
+    pub fn dispatches(&self, domain: u16) -> Vec<u64> {
+        let vcpus = 0..self.system.vcpu_count(domain) as u32;
+        vcpus.filter_map(|v| self.system.on_cpu_since(domain, v)).collect()
+    }
 }
 
 /// A script under way: no host before its first successful build.

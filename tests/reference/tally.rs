@@ -12,7 +12,7 @@ pub enum Of {
 }
 
 /// A row's name, the records that it counts, and what they can be told.
-pub type Row = (&'static str, Of, &'static [u8]);
+pub type Row = (&'static str, Of, Vec<u8>);
 
 impl Of {
     fn counts(&self, record: Option<Record>) -> bool {
@@ -29,31 +29,40 @@ impl Of {
 const TRANSITION: &[u8] = &[DONE, BAD_DOMAIN, BAD_VCPU, WRONG_STATE, BAD_SCRIPT];
 const RUN: &[u8] = &[DONE, BAD_DOMAIN, BAD_VCPU, BAD_PCPU, WRONG_STATE, PCPU_BUSY, NOT_AFFINE, BAD_SCRIPT];
 
-/// Of the calls of a script.
-pub const CALLS: &[Row] = &[
-    ("build", Kind(0), &[DONE, TOO_LARGE]),
-    ("admit", Kind(1), TRANSITION),
-    ("run", Kind(2), RUN),
-    ("preempt", Kind(3), TRANSITION),
-    ("block", Kind(4), TRANSITION),
-    ("wake", Kind(5), TRANSITION),
-    ("offline", Kind(6), TRANSITION),
-    ("mask", Kind(7), &[DONE, BAD_DOMAIN, BAD_VCPU, NOT_AFFINE, BAD_SCRIPT]),
-    ("weight", Kind(8), &[DONE, BAD_SCRIPT]),
-    ("advance", Kind(9), &[DONE, BAD_SCRIPT]),
-    ("boost", Kind(10), &[DONE, BAD_SCRIPT]),
-    ("above 10", KindAbove(LAST_KIND), &[BAD_SCRIPT]),
-    ("cut off", CutOff, &[BAD_SCRIPT]),
+/// The kinds of a script from 0 on, and what each can be told where no system is damaged.
+const KINDS: [(&str, &[u8]); LAST_KIND as usize + 1] = [
+    ("build", &[DONE, TOO_LARGE]),
+    ("admit", TRANSITION),
+    ("run", RUN),
+    ("preempt", TRANSITION),
+    ("block", TRANSITION),
+    ("wake", TRANSITION),
+    ("offline", TRANSITION),
+    ("mask", &[DONE, BAD_DOMAIN, BAD_VCPU, NOT_AFFINE, BAD_SCRIPT]),
+    ("weight", &[DONE, BAD_SCRIPT]),
+    ("advance", &[DONE, BAD_SCRIPT]),
+    ("boost", &[DONE, BAD_SCRIPT]),
 ];
 
+/// Of the kinds of a script.
+pub fn kinds() -> Vec<Row> {
+    (0..).zip(KINDS).map(|(kind, (name, told))| (name, Kind(kind), told.to_vec())).collect()
+}
+
+/// Of every record of a script.
+pub fn calls() -> Vec<Row> {
+    let no_calls = [("above 10", KindAbove(LAST_KIND), vec![BAD_SCRIPT]), ("cut off", CutOff, vec![BAD_SCRIPT])];
+    kinds().into_iter().chain(no_calls).collect()
+}
+
 pub struct Tally {
-    rows: &'static [Row],
+    rows: Vec<Row>,
     told: Vec<[u64; ANSWERS]>,
 }
 
 impl Tally {
-    pub fn new(rows: &'static [Row]) -> Tally {
-        Tally { rows, told: vec![[0; ANSWERS]; rows.len()] }
+    pub fn new(rows: Vec<Row>) -> Tally {
+        Tally { told: vec![[0; ANSWERS]; rows.len()], rows }
     }
 
     pub fn note(&mut self, record: Option<Record>, answer: u8) {

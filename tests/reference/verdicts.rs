@@ -1,14 +1,14 @@
 //! Random records for `examine` that write fields with no test: every verdict, every answer, every read.
 use crate::comparison::{length, Comparison, BUDGET};
-use crate::examine::{Reads, BUILD_APART, OFFLINE_ALL};
+use crate::examine::{wants_sound, Reads, BUILD_APART, OFFLINE_ALL};
 use crate::fields::{names_field, oversize, Verdict, SNAPSHOT, STATE};
 use crate::generate::{damaged, Rng};
 use crate::outcomes::{Outcome, Seen, When::Read};
 use crate::reads::{Records, Sort};
 use crate::sched::{RunState, Violation};
-use crate::script::{Host, Record, BAD_DOMAIN, BAD_PCPU, BAD_SCRIPT, BAD_VCPU, DONE, NOT_AFFINE, PCPU_BUSY, SIZES};
-use crate::script::{TOO_LARGE, UNSOUND, WRONG_STATE};
-use crate::tally::{Of::*, Row};
+use crate::script::{Host, Record, BAD_SCRIPT, DONE, SIZES, TOO_LARGE, UNSOUND};
+use crate::tally::{kinds, Of::*, Row};
+use std::cmp::Ordering::Greater;
 use std::process::ExitCode;
 
 pub fn compare(comparison: &Comparison) -> ExitCode {
@@ -24,31 +24,26 @@ pub struct Damaged;
 
 impl Sort for Damaged {
     const OUTCOMES: &'static [Outcome] = OUTCOMES;
-    const ANSWERS: &'static [Row] = ANSWERS;
+
+    fn answers() -> Vec<Row> {
+        let more = [
+            ("all off", Kind(OFFLINE_ALL), vec![DONE, BAD_SCRIPT]),
+            ("apart", Kind(BUILD_APART), vec![DONE, TOO_LARGE]),
+            ("a field", Kinds(STATE, SNAPSHOT), vec![DONE, BAD_SCRIPT]),
+            ("above 28", KindAbove(SNAPSHOT), vec![BAD_SCRIPT]),
+            ("cut off", CutOff, vec![BAD_SCRIPT]),
+        ];
+        kinds().into_iter().chain(more).map(or_unsound).collect()
+    }
 }
 
-const BUILD: &[u8] = &[DONE, TOO_LARGE];
-const TRANSITION: &[u8] = &[DONE, BAD_DOMAIN, BAD_VCPU, WRONG_STATE, UNSOUND, BAD_SCRIPT];
-const RUN: &[u8] = &[DONE, BAD_DOMAIN, BAD_VCPU, BAD_PCPU, WRONG_STATE, PCPU_BUSY, NOT_AFFINE, UNSOUND, BAD_SCRIPT];
-
-const ANSWERS: &[Row] = &[
-    ("build", Kind(0), BUILD),
-    ("admit", Kind(1), TRANSITION),
-    ("run", Kind(2), RUN),
-    ("preempt", Kind(3), TRANSITION),
-    ("block", Kind(4), TRANSITION),
-    ("wake", Kind(5), TRANSITION),
-    ("offline", Kind(6), TRANSITION),
-    ("mask", Kind(7), &[DONE, BAD_DOMAIN, BAD_VCPU, NOT_AFFINE, UNSOUND, BAD_SCRIPT]),
-    ("weight", Kind(8), &[DONE, BAD_SCRIPT]),
-    ("advance", Kind(9), &[DONE, UNSOUND, BAD_SCRIPT]),
-    ("boost", Kind(10), &[DONE, BAD_SCRIPT]),
-    ("all off", Kind(OFFLINE_ALL), &[DONE, UNSOUND, BAD_SCRIPT]),
-    ("apart", Kind(BUILD_APART), BUILD),
-    ("a field", Kinds(STATE, SNAPSHOT), &[DONE, BAD_SCRIPT]),
-    ("above 28", KindAbove(SNAPSHOT), &[BAD_SCRIPT]),
-    ("cut off", CutOff, &[BAD_SCRIPT]),
-];
+/// A call that wants a sound system can be told 8 too.
+fn or_unsound((name, of, mut told): Row) -> Row {
+    if matches!(of, Kind(kind) if wants_sound(kind)) {
+        told.push(UNSOUND);
+    }
+    (name, of, told)
+}
 
 const OUTCOMES: &[Outcome] = &[
     // what is made
@@ -113,6 +108,7 @@ const OUTCOMES: &[Outcome] = &[
     ),
     ("a mask's bit past the count admits nothing", Read(|read, seen| !read.permits && bit_past(read, seen))),
     ("run times written: usage above 2^64", Read(|read, seen| written(seen) && read.used >> 64 > 0)),
+    ("usage after a dispatch, on a damaged system", Read(|read, seen| !read.sound && seen.reads(Greater))),
     // the policy
     ("a stored weight of 0 reads as 1", Read(|read, seen| covered(seen) && read.kept[0] == 0 && read.weight == 1)),
     ("a weight under a policy of more than 16 domains", Read(|read, seen| policy_over(seen)[0] && read.weight > 1)),

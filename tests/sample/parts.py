@@ -4,7 +4,7 @@ import subprocess
 
 ROOT = pathlib.Path(__file__).resolve().parent.parent.parent
 # the first opens with a call before any build, the last closes with a record that is cut off
-BEFORE = ["examples/refusals.txt", "examples/first.txt", "examples/payment-run.txt", "tests/sample/situations.txt"]
+BEFORE = [f"examples/{name}.txt" for name in ("refusals", "first", "payment-run", "month-end")] + ["tests/sample/situations.txt"]
 LAST = "tests/sample/edges.txt"
 # not stored: upstream's sum overflows in it
 HELD = "tests/sample/held.txt"

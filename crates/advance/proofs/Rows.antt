@@ -18,7 +18,7 @@ use Rattle.system.specs.declared.RunState.{RunState}
 use Rattle.system.specs.declared.RunState.the-variants.{Offline, Runnable, Running, Blocked}
 use Rattle.system.specs.declared.VirtualCpu.{VirtualCpu}
 use Rattle.system.specs.declared.System.{System}
-use Rattle.system.specs.Records.{elapsed, inFlight}
+use Rattle.system.specs.Records.{elapsed, runtimeUntil}
 use Rattle.system.specs.Reads.{vcpuAt, idleAt}
 use Rattle.system.specs.Slots.{vcpus, Present, slots, present, is-present}
 use Rattle.system.specs.States.{onto, isRunnable}
@@ -128,11 +128,11 @@ abbrev pub stored : List ℕ → ℕ
 stored r = value (getD r 0 0 ∷ getD r 1 0 ∷ getD r 2 0 ∷ getD r 3 0 ∷ [])
 
 -- what the service policy stores is the service by its rule
-pub service-stored : (π : Scheduler) (v : VirtualCpu) (now i : ℕ) (r : List ℕ) → r ≡ held (v .runtime + inFlight v now + offsetOf π (i / 8) (i % 8))
+pub service-stored : (π : Scheduler) (v : VirtualCpu) (now i : ℕ) (r : List ℕ) → r ≡ held (runtimeUntil v now + offsetOf π (i / 8) (i % 8))
     → stored r ≡ serviceBy π v now i
 unfolding serviceBy
 service-stored π v now i r x =
-    let n = v .runtime + inFlight v now + offsetOf π (i / 8) (i % 8) in
+    let n = runtimeUntil v now + offsetOf π (i / 8) (i % 8) in
     ap stored x ∙ ap value (limbs-same n) ∙ value-held n
 
 -- a row of another slot, in a system that has the same there

@@ -12,7 +12,7 @@ use Rattle.system.specs.declared.VirtualCpu.{VirtualCpu}
 use Rattle.system.specs.declared.Occupant.{Occupant}
 use Rattle.system.specs.declared.Occupant.the-variants.{Idle}
 use Rattle.system.specs.declared.System.{System}
-use Rattle.system.specs.Records.{elapsed, flight, inFlight}
+use Rattle.system.specs.Records.{elapsed, flight, inFlight, runtimeUntil}
 use Rattle.system.specs.Reads.{vcpuAt, stateAt, admits}
 use Rattle.system.specs.Writes.{Wrote, present-back, same-pcpus}
 use Rattle.system.specs.Slots.{pcpus, Present}
@@ -65,7 +65,7 @@ state-there k a n = ap (λ (x : VirtualCpu). x .state) (k .there a n)
 
 raw-there : {s s′ : System} {i p : ℕ} {v : VirtualCpu} {o : Occupant} (now : ℕ) → Wrote s s′ i v p o → (a : ℕ) → a ≢ i
     → rawService s′ now a ≡ rawService s now a
-raw-there now k a n = ap (λ (x : VirtualCpu). x .runtime + inFlight x now) (k .there a n)
+raw-there now k a n = ap (λ (x : VirtualCpu). runtimeUntil x now) (k .there a n)
 
 module _ (w : ℕ → ℕ) (pos : (i : ℕ) → 0 < w i) (lim : ℕ) where
   -- a preemption, in favour of k, who waits and is before i

@@ -1,6 +1,6 @@
 pub mod Laws
 mod Ids
-mod Sums
+mod Lifts
 mod AccountReads
 mod ClearLoop
 mod FloorLoop

@@ -17,8 +17,8 @@ use system::System;
 use system::Ticks;
 use system::Vcpu;
 use system::VirtualCpu;
-use system::in_flight;
 use system::least;
+use system::runtime_until;
 
 /// A vCPU's proportional share.
 pub type Weight = u32;
@@ -107,14 +107,12 @@ pub fn used_weight(a: Account) -> Weight
     raised(a.weight)
 }
 
-/// A vCPU's service: run time, the part in flight and the offset.
+/// A vCPU's service: its run time up to the reading, and the offset.
 pub fn service_of(v: VirtualCpu, a: Account, now: Ticks) -> Service
     ensures { λ r. ⌜ r ≡ held (serviceOf v a now) ⌝ }
 {
     let offset = a.offset;
-    let closed = service::from_u64(v.runtime);
-    let open = service::from_u64(in_flight(v, now));
-    service::sum(service::sum(closed, open), offset)
+    service::sum(runtime_until(v, now), offset)
 }
 
 // Whether a vCPU is in the pool: Runnable or Running.

@@ -39,6 +39,10 @@ value-held n = value-limbs 4 _ ∙ mod-eq-of-lt (lt-of-le-of-lt (min-le-right n 
 pub held-exact : (n : ℕ) → n < 2 ^ 128 → value (held n) ≡ n
 held-exact n h = value-held n ∙ below-limit n (2 ^ 128) h
 
+-- limbs that hold it are worth it
+pub exactly : {l : List ℕ} {n : ℕ} → n < 2 ^ 128 → l ≡ held n → (l ≡ held n) × (value l ≡ n)
+exactly {n = n} h e = (e, ap value e ∙ held-exact n h)
+
 -- four limbs are worth less than 2 ^ 128
 pub value-below : (l : List ℕ) → length l ≡ 4 → ((i : ℕ) → getD l i 0 < 2 ^ 32) → value l < 2 ^ 128
 value-below l e h = rw e at (value-bound l h)

@@ -4,13 +4,15 @@
 ghost use mathlib.Core.Path.{_≡_};
 ghost use mathlib.Core.Bool.{cond, not};
 ghost use Prim.Native.Nat.{min};
+ghost use Rattle.service.specs.Service.{value, held};
 ghost use Rattle.system.specs.Answers.{told, systemOutcome};
-ghost use Rattle.system.specs.Records.{elapsed, inFlight};
+ghost use Rattle.system.specs.Records.{elapsed, inFlight, runtimeUntil};
 ghost use Rattle.system.specs.Shape.{withinSizes, fresh, builtSystem};
 ghost use Rattle.system.specs.Reads.{vcpuCount, isIdle, vcpuOf, stateOf, runs, isRunning};
 ghost use Rattle.system.specs.Reads.{runtimeOf, since, onCpuSince, occupantOf, affinityOf, affinityPermits};
 ghost use Rattle.system.specs.Reads.{fullAffinity, busyIn, busyPcpus};
 ghost use Rattle.system.specs.Slots.{domains, pcpus};
+use service::Service;
 
 /// A domain id: an index into the system's domains.
 pub type DomId = u16;
@@ -189,6 +191,17 @@ pub fn in_flight(v: VirtualCpu, now: Ticks) -> u64
         RunState::Running { pcpu: _ } => elapsed(v, now),
         RunState::Blocked => 0,
     }
+}
+
+/// A vCPU's run time up to a reading: over closed intervals, and the part in flight. It is exact: of two
+/// numbers of 64 bits nothing is held.
+pub fn runtime_until(v: VirtualCpu, now: Ticks) -> Service
+    ensures { λ r. ⌜ r ≡ held (runtimeUntil v now) ⌝ }
+    ensures { λ r. ⌜ value r ≡ runtimeUntil v now ⌝ }
+{
+    let closed = service::from_u64(v.runtime);
+    let open = service::from_u64(in_flight(v, now));
+    service::sum(closed, open)
 }
 
 // A system of that shape: all vCPUs Offline with every pCPU admitted, all pCPUs idle.

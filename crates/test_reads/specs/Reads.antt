@@ -30,14 +30,14 @@ vcpuNumbers s q =
     ∷ maybeNumbers (runtimeOf s (q .dom) (q .vcpu))
     ++ (maybeNumbers (onCpuSince s (q .dom) (q .vcpu)) ++ maybeNumbers (affinityOf s (q .dom) (q .vcpu)))
 
--- whether its mask admits the pCPU, its weight, its domain's vCPUs, the mask of all pCPUs, what its domain used, by limbs
+-- whether its mask admits the pCPU, its weight, its domain's vCPUs, the mask of all pCPUs, what its domain used up to the clock, by limbs
 unfoldable pub domainNumbers : System → Scheduler → Query → List ℕ
 domainNumbers s π q =
     bit (affinityPermits s (q .dom) (q .vcpu) (q .pcpu))
     ∷ weightOf π (q .dom) (q .vcpu)
     ∷ vcpuCount s (q .dom)
     ∷ fullAffinity s
-    ∷ held (usage s (q .dom))
+    ∷ held (usage s (q .dom) (q .clock))
 
 -- domains, pCPUs, busy pCPUs, the slice, whether the system is sound, who holds the pCPU
 unfoldable pub hostNumbers : System → Scheduler → ℕ → List ℕ

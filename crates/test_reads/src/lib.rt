@@ -117,7 +117,7 @@ fn vcpu_numbers(s: System, q: Query) -> [u64; 8]
 fn domain_numbers(s: System, p: Scheduler, q: Query) -> [u64; 8]
     ensures { λ r. ⌜ r ≡ domainNumbers s p q ⌝ }
 {
-    let used = usage::usage(s, q.dom);
+    let used = usage::usage(s, q.dom, q.clock);
     [
         bit(s.affinity_permits(q.dom, q.vcpu, q.pcpu)),
         wide(p.weight_of(q.dom, q.vcpu)),

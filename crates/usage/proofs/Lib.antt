@@ -1,1 +1,4 @@
+pub mod Laws
 mod Bounds
+mod RecordTimes
+mod AtItsClock

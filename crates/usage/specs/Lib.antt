@@ -1,3 +1,5 @@
 pub mod Usage
+pub mod Sums
 pub mod Laws
+pub mod AtItsClock
 pub mod Rows

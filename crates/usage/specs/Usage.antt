@@ -1,14 +1,15 @@
--- What a domain used.
+-- What a domain used up to a clock reading.
 use Prim.Native.Nat.{ℕ, zero, suc, _+_}
 use Rattle.system.specs.declared.System.{System}
+use Rattle.system.specs.Records.{runtimeUntil}
 use Rattle.system.specs.Reads.{vcpuAt, vcpuCount}
 use Rattle.system.specs.Slots.{slot}
 
--- the run times of the first k vCPUs of domain d
-unfoldable pub runtimes : System → ℕ → ℕ → ℕ
-runtimes s d zero = 0
-runtimes s d (suc k) = runtimes s d k + (vcpuAt s (slot d k)) .runtime
+-- f summed over the numbers below n
+unfoldable pub sum : (ℕ → ℕ) → ℕ → ℕ
+sum f zero = 0
+sum f (suc n) = sum f n + f n
 
--- a bad domain has no vCPUs
-abbrev pub usage : System → ℕ → ℕ
-usage s d = runtimes s d (vcpuCount s d)
+-- the run times of its vCPUs up to the reading; a bad domain has none
+abbrev pub usage : System → ℕ → ℕ → ℕ
+usage s d now = sum (λ v. runtimeUntil (vcpuAt s (slot d v)) now) (vcpuCount s d)

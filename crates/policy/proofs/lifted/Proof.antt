@@ -2,7 +2,7 @@
 use borrow.Author.Needs.{needs}
 use mathlib.Core.Path.{_∙_}
 use Rattle.service.specs.Service.{value}
-use Rattle.policy.proofs.Sums.{lifts}
+use Rattle.policy.proofs.Lifts.{lifts}
 use Rattle.policy.proofs.lifted.Statement.{statement}
 use Rattle.policy.proofs.lifted.Tie as tie
 

@@ -26,7 +26,7 @@ returns c =
     (ap₂ _∷_ (weight .wide .ensures ∙ weight .before .weight-of .ensures)
     (ap₂ _∷_ (count .vcpu-count .ensures)
     (ap₂ _∷_ (full .full-affinity .ensures)
-    (limbs ∙ limbs-last (usage (a .s) (a .q .dom)) (used .usage .ensures)))))
+    (limbs ∙ limbs-last (usage (a .s) (a .q .dom) (a .q .clock)) (used .usage .ensures .0)))))
 
 pub domain-numbers-spec : {M : Type 1} → statement M
 domain-numbers-spec =

@@ -1,14 +1,11 @@
--- Sums and quotients that are held at each step are held once. Assumes nothing.
-use Prim.Native.Nat.{ℕ, _+_, _-_, _*_, _/_, _^_, _≤_, min, max}
-use mathlib.Core.Path.{_≡_, _∙_, ap}
+-- A quotient and a difference that are held at each step are held once. Assumes nothing.
+use Prim.Native.Nat.{ℕ, _-_, _*_, _/_, _^_, _≤_, min, max}
+use mathlib.Core.Path.{_≡_, ap}
 use native.Mathlib.Omega.{arith}
 use native.Mathlib.Nat.{div-le-self}
 use Rattle.service.specs.Service.{value, held}
-use Rattle.service.specs.Laws.{value-held, held-sum, held-sum-both}
+use Rattle.service.specs.Laws.{value-held}
 use Rattle.policy.specs.Accounting.{lift}
-
-pub sums : (a b c : ℕ) → held (value (held (value (held a) + value (held b))) + c) ≡ held (a + b + c)
-sums a b c = ap (λ x. held (value x + c)) (held-sum-both a b) ∙ held-sum (a + b) c
 
 -- m stands for the largest number of 128 bits
 held-part : (q m r : ℕ) → q ≤ m → min q m - min r m ≡ q - r
