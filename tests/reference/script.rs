@@ -1,25 +1,29 @@
-//! Records, and upstream's host behind them. Only the answers 7 and 9 are added here; all else is upstream's.
+//! Records, and upstream's host behind them. Only the answers 7 and 9 are added here; all else is upstream's. Its one
+//! WrongState is told by the number of the state that its own `state_of` gives just before the call.
 use crate::fields::Tables;
 use crate::policy::Scheduler;
-use crate::sched::{SchedError, System};
+use crate::sched::{RunState, SchedError, System};
 use std::panic::{catch_unwind, resume_unwind, AssertUnwindSafe};
 
 pub const RECORD: usize = 20;
 /// Kinds of a script are numbers up to this.
 pub const LAST_KIND: u16 = 10;
-// the answers; upstream has neither 7, 8 nor 9
+// the answers; upstream has neither 7, 8 nor 9, and one for 4, 10, 11 and 12
 pub const DONE: u8 = 0;
 pub const BAD_DOMAIN: u8 = 1;
 pub const BAD_VCPU: u8 = 2;
 pub const BAD_PCPU: u8 = 3;
-pub const WRONG_STATE: u8 = 4;
+pub const FOUND_RUNNABLE: u8 = 4;
 pub const PCPU_BUSY: u8 = 5;
 pub const NOT_AFFINE: u8 = 6;
 pub const TOO_LARGE: u8 = 7;
 pub const UNSOUND: u8 = 8;
 pub const BAD_SCRIPT: u8 = 9;
+pub const FOUND_OFFLINE: u8 = 10;
+pub const FOUND_RUNNING: u8 = 11;
+pub const FOUND_BLOCKED: u8 = 12;
 /// Answers are numbers below this.
-pub const ANSWERS: usize = 10;
+pub const ANSWERS: usize = 13;
 pub const SIZES: [u64; 3] = [16, 8, 64];
 
 #[derive(Clone, Copy, Default)]
@@ -147,24 +151,24 @@ impl Replay {
 
 impl Host {
     fn call(&mut self, r: Record) -> u8 {
+        let found = self.system.state_of(r.domain, r.vcpu);
+        number(self.result(r), found)
+    }
+
+    fn result(&mut self, r: Record) -> Result<(), SchedError> {
         let s = &mut self.system;
         match r.kind {
-            1 => number(s.admit(r.domain, r.vcpu)),
-            2 => number(s.run(r.domain, r.vcpu, r.third, r.value)),
-            3 => number(s.preempt(r.domain, r.vcpu, r.value)),
-            4 => number(s.block(r.domain, r.vcpu, r.value)),
-            5 => number(s.wake(r.domain, r.vcpu)),
-            6 => number(s.offline(r.domain, r.vcpu, r.value)),
-            7 => number(s.set_affinity(r.domain, r.vcpu, r.value)),
-            8 => {
-                self.policy.set_weight(r.domain, r.vcpu, r.third);
-                DONE
-            }
-            _ => {
-                self.policy.set_wake_boost(r.value != 0);
-                DONE
-            }
+            1 => s.admit(r.domain, r.vcpu)?,
+            2 => s.run(r.domain, r.vcpu, r.third, r.value)?,
+            3 => s.preempt(r.domain, r.vcpu, r.value)?,
+            4 => s.block(r.domain, r.vcpu, r.value)?,
+            5 => s.wake(r.domain, r.vcpu)?,
+            6 => s.offline(r.domain, r.vcpu, r.value)?,
+            7 => s.set_affinity(r.domain, r.vcpu, r.value)?,
+            8 => self.policy.set_weight(r.domain, r.vcpu, r.third),
+            _ => self.policy.set_wake_boost(r.value != 0),
         }
+        Ok(())
     }
 }
 
@@ -173,15 +177,24 @@ pub fn told(answer: u8) -> Told {
     Told { answer, moves: 0 }
 }
 
-fn number(result: Result<(), SchedError>) -> u8 {
+fn number(result: Result<(), SchedError>, found: Option<RunState>) -> u8 {
     match result {
         Ok(()) => DONE,
         Err(SchedError::BadDomain) => BAD_DOMAIN,
         Err(SchedError::BadVcpu) => BAD_VCPU,
         Err(SchedError::BadPcpu) => BAD_PCPU,
-        Err(SchedError::WrongState) => WRONG_STATE,
+        Err(SchedError::WrongState) => found_in(found.expect("a vCPU in a wrong state")),
         Err(SchedError::PcpuBusy) => PCPU_BUSY,
         Err(SchedError::NotAffine) => NOT_AFFINE,
+    }
+}
+
+fn found_in(state: RunState) -> u8 {
+    match state {
+        RunState::Offline => FOUND_OFFLINE,
+        RunState::Runnable => FOUND_RUNNABLE,
+        RunState::Running { .. } => FOUND_RUNNING,
+        RunState::Blocked => FOUND_BLOCKED,
     }
 }
 

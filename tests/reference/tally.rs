@@ -1,6 +1,7 @@
 //! How often records were told what, kind by kind.
 use crate::script::{Record, ANSWERS, LAST_KIND};
-use crate::script::{BAD_DOMAIN, BAD_PCPU, BAD_SCRIPT, BAD_VCPU, DONE, NOT_AFFINE, PCPU_BUSY, TOO_LARGE, WRONG_STATE};
+use crate::script::{BAD_DOMAIN, BAD_PCPU, BAD_SCRIPT, BAD_VCPU, DONE, NOT_AFFINE, PCPU_BUSY, TOO_LARGE};
+use crate::script::{FOUND_BLOCKED, FOUND_OFFLINE, FOUND_RUNNABLE, FOUND_RUNNING};
 use Of::{CutOff, Kind, KindAbove, Kinds};
 
 /// The records that a row counts.
@@ -26,27 +27,27 @@ impl Of {
     }
 }
 
-const TRANSITION: &[u8] = &[DONE, BAD_DOMAIN, BAD_VCPU, WRONG_STATE, BAD_SCRIPT];
-const RUN: &[u8] = &[DONE, BAD_DOMAIN, BAD_VCPU, BAD_PCPU, WRONG_STATE, PCPU_BUSY, NOT_AFFINE, BAD_SCRIPT];
+const OF_A_VCPU: &[u8] = &[DONE, BAD_DOMAIN, BAD_VCPU, BAD_SCRIPT];
+const OF_A_POLICY: &[u8] = &[DONE, BAD_SCRIPT];
 
 /// The kinds of a script from 0 on, and what each can be told where no system is damaged.
-const KINDS: [(&str, &[u8]); LAST_KIND as usize + 1] = [
-    ("build", &[DONE, TOO_LARGE]),
-    ("admit", TRANSITION),
-    ("run", RUN),
-    ("preempt", TRANSITION),
-    ("block", TRANSITION),
-    ("wake", TRANSITION),
-    ("offline", TRANSITION),
-    ("mask", &[DONE, BAD_DOMAIN, BAD_VCPU, NOT_AFFINE, BAD_SCRIPT]),
-    ("weight", &[DONE, BAD_SCRIPT]),
-    ("advance", &[DONE, BAD_SCRIPT]),
-    ("boost", &[DONE, BAD_SCRIPT]),
+const KINDS: [(&str, &[u8], &[u8]); LAST_KIND as usize + 1] = [
+    ("build", &[DONE, TOO_LARGE], &[]),
+    ("admit", OF_A_VCPU, &[FOUND_RUNNABLE, FOUND_RUNNING, FOUND_BLOCKED]),
+    ("run", OF_A_VCPU, &[BAD_PCPU, FOUND_OFFLINE, FOUND_RUNNING, FOUND_BLOCKED, PCPU_BUSY, NOT_AFFINE]),
+    ("preempt", OF_A_VCPU, &[FOUND_OFFLINE, FOUND_RUNNABLE, FOUND_BLOCKED]),
+    ("block", OF_A_VCPU, &[FOUND_OFFLINE, FOUND_BLOCKED]),
+    ("wake", OF_A_VCPU, &[FOUND_OFFLINE, FOUND_RUNNABLE, FOUND_RUNNING]),
+    ("offline", OF_A_VCPU, &[FOUND_OFFLINE]),
+    ("mask", OF_A_VCPU, &[NOT_AFFINE]),
+    ("weight", OF_A_POLICY, &[]),
+    ("advance", OF_A_POLICY, &[]),
+    ("boost", OF_A_POLICY, &[]),
 ];
 
 /// Of the kinds of a script.
 pub fn kinds() -> Vec<Row> {
-    (0..).zip(KINDS).map(|(kind, (name, told))| (name, Kind(kind), told.to_vec())).collect()
+    (0..).zip(KINDS).map(|(kind, (name, told, more))| (name, Kind(kind), [told, more].concat())).collect()
 }
 
 /// Of every record of a script.

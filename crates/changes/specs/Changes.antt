@@ -10,7 +10,8 @@ use Rattle.system.specs.declared.Occupant.{Occupant}
 use Rattle.system.specs.declared.Occupant.the-variants.{Idle}
 use Rattle.system.specs.declared.PhysicalCpu.{PhysicalCpu}
 use Rattle.system.specs.declared.Answer.{Answer}
-use Rattle.system.specs.declared.Answer.the-variants.{Done, WrongState, PcpuBusy, NotAffine}
+use Rattle.system.specs.declared.Answer.the-variants.{Done, PcpuBusy, NotAffine}
+use Rattle.system.specs.declared.Answer.the-variants.{FoundOffline, FoundRunnable, FoundRunning, FoundBlocked}
 use Rattle.system.specs.Records.{withMask}
 use Rattle.system.specs.Reads.{isIdle}
 use Rattle.changes.specs.declared.Request.{Request}
@@ -20,42 +21,45 @@ use Rattle.changes.specs.declared.After.{After}
 use Rattle.changes.specs.Records.{withState, dispatched, left}
 
 -- what is told of a vCPU found in a state that the call does not accept
-abbrev pub wrongState : RunState → Answer
-wrongState st = WrongState
+abbrev pub foundIn : RunState → Answer
+foundIn Offline = FoundOffline
+foundIn Runnable = FoundRunnable
+foundIn (Running p) = FoundRunning
+foundIn Blocked = FoundBlocked
 
 -- admit: of one Offline
 abbrev pub admitted : VirtualCpu → RunState → Change
 admitted v Offline = Write (withState v Runnable)
-admitted v Runnable = Refuse (wrongState Runnable)
-admitted v (Running p) = Refuse (wrongState (Running p))
-admitted v Blocked = Refuse (wrongState Blocked)
+admitted v Runnable = Refuse (foundIn Runnable)
+admitted v (Running p) = Refuse (foundIn (Running p))
+admitted v Blocked = Refuse (foundIn Blocked)
 
 -- run onto pCPU p: of one Runnable, that the mask admits
 abbrev pub ran : VirtualCpu → ℕ → ℕ → RunState → Change
-ran v p now Offline = Refuse (wrongState Offline)
+ran v p now Offline = Refuse (foundIn Offline)
 ran v p now Runnable = cond (permits (v .affinity) p) (Enter (dispatched v p now) p) (Refuse NotAffine)
-ran v p now (Running q) = Refuse (wrongState (Running q))
-ran v p now Blocked = Refuse (wrongState Blocked)
+ran v p now (Running q) = Refuse (foundIn (Running q))
+ran v p now Blocked = Refuse (foundIn Blocked)
 
 -- preempt: of one Running
 abbrev pub preempted : VirtualCpu → ℕ → RunState → Change
-preempted v now Offline = Refuse (wrongState Offline)
-preempted v now Runnable = Refuse (wrongState Runnable)
+preempted v now Offline = Refuse (foundIn Offline)
+preempted v now Runnable = Refuse (foundIn Runnable)
 preempted v now (Running p) = Leave (left v Runnable now) p
-preempted v now Blocked = Refuse (wrongState Blocked)
+preempted v now Blocked = Refuse (foundIn Blocked)
 
 -- block: of one Runnable or Running
 abbrev pub blocked : VirtualCpu → ℕ → RunState → Change
-blocked v now Offline = Refuse (wrongState Offline)
+blocked v now Offline = Refuse (foundIn Offline)
 blocked v now Runnable = Write (withState v Blocked)
 blocked v now (Running p) = Leave (left v Blocked now) p
-blocked v now Blocked = Refuse (wrongState Blocked)
+blocked v now Blocked = Refuse (foundIn Blocked)
 
 -- wake: of one Blocked
 abbrev pub woken : VirtualCpu → RunState → Change
-woken v Offline = Refuse (wrongState Offline)
-woken v Runnable = Refuse (wrongState Runnable)
-woken v (Running p) = Refuse (wrongState (Running p))
+woken v Offline = Refuse (foundIn Offline)
+woken v Runnable = Refuse (foundIn Runnable)
+woken v (Running p) = Refuse (foundIn (Running p))
 woken v Blocked = Write (withState v Runnable)
 
 -- a new mask must not exclude the pCPU that the vCPU is Running on
@@ -67,7 +71,7 @@ masked v m Blocked = Write (withMask v m)
 
 -- offline: of one not Offline; the mask is filled again, the run time kept
 abbrev pub offlined : VirtualCpu → ℕ → ℕ → RunState → Change
-offlined v full now Offline = Refuse (wrongState Offline)
+offlined v full now Offline = Refuse (foundIn Offline)
 offlined v full now Runnable = Write (withMask (withState v Offline) full)
 offlined v full now (Running p) = Leave (withMask (left v Offline now) full) p
 offlined v full now Blocked = Write (withMask (withState v Offline) full)

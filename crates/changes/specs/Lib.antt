@@ -1,3 +1,4 @@
 pub mod Records
 pub mod Changes
+pub mod Found
 pub mod Rows

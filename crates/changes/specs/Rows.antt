@@ -67,21 +67,24 @@ requests =
     -- admit: of one Offline
     rows (after Request.Admit Offline Idle) (0 ∷ 1 ∷ 7 ∷ 0 ∷ 5 ∷ 0 ∷ [])
     ∷ rows (after Request.Admit Runnable Idle) (kept 4 1 0)
-    ∷ rows (after Request.Admit (Running 2) mine) (kept-on 4)
-    ∷ rows (after Request.Admit Blocked Idle) (kept 4 2 0)
+    ∷ rows (after Request.Admit (Running 2) mine) (kept-on 11)
+    ∷ rows (after Request.Admit Blocked Idle) (kept 12 2 0)
     -- run at 110: of one Runnable, onto an idle pCPU that the mask admits; the state before the mask, the mask before the holder
     ∷ rows (after (Request.Run 2 110) Runnable Idle) (0 ∷ 12 ∷ 7 ∷ 110 ∷ 5 ∷ 24 ∷ [])
     ∷ rows (after (Request.Run 2 110) Runnable (Vcpu 0 1)) (kept 5 1 2)
     ∷ rows (after (Request.Run 1 110) Runnable Idle) (kept 6 1 0)
     ∷ rows (after (Request.Run 1 110) Runnable (Vcpu 0 1)) (kept 6 1 2)
-    ∷ rows (after (Request.Run 1 110) Offline (Vcpu 0 1)) (kept 4 0 2)
-    ∷ rows (after (Request.Run 2 110) (Running 2) mine) (kept-on 4)
-    ∷ rows (after (Request.Run 2 110) Blocked Idle) (kept 4 2 0)
+    ∷ rows (after (Request.Run 1 110) Offline (Vcpu 0 1)) (kept 10 0 2)
+    ∷ rows (after (Request.Run 1 110) (Running 2) (Vcpu 0 1)) (11 ∷ 12 ∷ 7 ∷ 100 ∷ 5 ∷ 2 ∷ [])
+    ∷ rows (after (Request.Run 1 110) Blocked (Vcpu 0 1)) (kept 12 2 2)
+    ∷ rows (after (Request.Run 2 110) Offline Idle) (kept 10 0 0)
+    ∷ rows (after (Request.Run 2 110) (Running 2) mine) (kept-on 11)
+    ∷ rows (after (Request.Run 2 110) Blocked Idle) (kept 12 2 0)
     -- preempt at 110: of one Running; 10 ticks are added
     ∷ rows (after (Request.Preempt 110) (Running 2) mine) (0 ∷ 1 ∷ 17 ∷ 0 ∷ 5 ∷ 0 ∷ [])
-    ∷ rows (after (Request.Preempt 110) Offline Idle) (kept 4 0 0)
+    ∷ rows (after (Request.Preempt 110) Offline Idle) (kept 10 0 0)
     ∷ rows (after (Request.Preempt 110) Runnable Idle) (kept 4 1 0)
-    ∷ rows (after (Request.Preempt 110) Blocked Idle) (kept 4 2 0)
+    ∷ rows (after (Request.Preempt 110) Blocked Idle) (kept 12 2 0)
     -- a clock that ran back adds nothing; a run time is held at 2^64 − 1
     ∷ rows (preempted-at 7 90) (0 ∷ 1 ∷ 7 ∷ 0 ∷ 5 ∷ 0 ∷ [])
     ∷ rows (preempted-at (2 ^ 64 - 11) 110) (0 ∷ 1 ∷ (2 ^ 64 - 1) ∷ 0 ∷ 5 ∷ 0 ∷ [])
@@ -89,13 +92,13 @@ requests =
     -- block at 110: of one Runnable or Running
     ∷ rows (after (Request.Block 110) Runnable Idle) (0 ∷ 2 ∷ 7 ∷ 0 ∷ 5 ∷ 0 ∷ [])
     ∷ rows (after (Request.Block 110) (Running 2) mine) (0 ∷ 2 ∷ 17 ∷ 0 ∷ 5 ∷ 0 ∷ [])
-    ∷ rows (after (Request.Block 110) Offline Idle) (kept 4 0 0)
-    ∷ rows (after (Request.Block 110) Blocked Idle) (kept 4 2 0)
+    ∷ rows (after (Request.Block 110) Offline Idle) (kept 10 0 0)
+    ∷ rows (after (Request.Block 110) Blocked Idle) (kept 12 2 0)
     -- wake: of one Blocked
     ∷ rows (after Request.Wake Blocked Idle) (0 ∷ 1 ∷ 7 ∷ 0 ∷ 5 ∷ 0 ∷ [])
-    ∷ rows (after Request.Wake Offline Idle) (kept 4 0 0)
+    ∷ rows (after Request.Wake Offline Idle) (kept 10 0 0)
     ∷ rows (after Request.Wake Runnable Idle) (kept 4 1 0)
-    ∷ rows (after Request.Wake (Running 2) mine) (kept-on 4)
+    ∷ rows (after Request.Wake (Running 2) mine) (kept-on 11)
     -- a mask: of one in any state, but not one that excludes the pCPU that it is Running on
     ∷ rows (after (Request.SetAffinity 4) Offline Idle) (0 ∷ 0 ∷ 7 ∷ 0 ∷ 4 ∷ 0 ∷ [])
     ∷ rows (after (Request.SetAffinity 0) Runnable Idle) (0 ∷ 1 ∷ 7 ∷ 0 ∷ 0 ∷ 0 ∷ [])
@@ -106,7 +109,7 @@ requests =
     ∷ rows (after (Request.Offline 110) Runnable Idle) (0 ∷ 0 ∷ 7 ∷ 0 ∷ 15 ∷ 0 ∷ [])
     ∷ rows (after (Request.Offline 110) (Running 2) mine) (0 ∷ 0 ∷ 17 ∷ 0 ∷ 15 ∷ 0 ∷ [])
     ∷ rows (after (Request.Offline 110) Blocked Idle) (0 ∷ 0 ∷ 7 ∷ 0 ∷ 15 ∷ 0 ∷ [])
-    ∷ rows (after (Request.Offline 110) Offline Idle) (kept 4 0 0)
+    ∷ rows (after (Request.Offline 110) Offline Idle) (kept 10 0 0)
     -- of 2 pCPUs a run asks for 0 or 1
     ∷ row (test (reaches (Request.Run 1 0) 2)) 1
     ∷ row (test (reaches (Request.Run 2 0) 2)) 0

@@ -5,7 +5,7 @@ ghost use mathlib.Core.Path.{_≡_};
 ghost use Prim.Native.Nat.{_+_, _-_, _^_, min};
 ghost use Rattle.system.specs.Records.{withMask};
 ghost use Rattle.changes.specs.Records.{withState, dispatched, left};
-ghost use Rattle.changes.specs.Changes.{wrongState, admitted, ran, preempted, blocked, woken, masked, offlined};
+ghost use Rattle.changes.specs.Changes.{foundIn, admitted, ran, preempted, blocked, woken, masked, offlined};
 ghost use Rattle.changes.specs.Changes.{changed, reaches, pcpuOf, stored};
 use system::Answer;
 use system::Occupant;
@@ -91,14 +91,14 @@ fn with_mask(v: VirtualCpu, affinity: u64) -> VirtualCpu
 // ---- what each request does
 
 // What is told of a vCPU found in a state that the call does not accept.
-fn wrong_state(state: RunState) -> Change
-    ensures { λ r. ⌜ r ≡ Change.Refuse (wrongState state) ⌝ }
+fn found_in(state: RunState) -> Change
+    ensures { λ r. ⌜ r ≡ Change.Refuse (foundIn state) ⌝ }
 {
     match state {
-        RunState::Offline => Change::Refuse(Answer::WrongState),
-        RunState::Runnable => Change::Refuse(Answer::WrongState),
-        RunState::Running { pcpu: _ } => Change::Refuse(Answer::WrongState),
-        RunState::Blocked => Change::Refuse(Answer::WrongState),
+        RunState::Offline => Change::Refuse(Answer::FoundOffline),
+        RunState::Runnable => Change::Refuse(Answer::FoundRunnable),
+        RunState::Running { pcpu: _ } => Change::Refuse(Answer::FoundRunning),
+        RunState::Blocked => Change::Refuse(Answer::FoundBlocked),
     }
 }
 
@@ -108,9 +108,7 @@ fn admitted(v: VirtualCpu) -> Change
     let state = v.state;
     match state {
         RunState::Offline => Change::Write(with_state(v, RunState::Runnable)),
-        RunState::Runnable => wrong_state(state),
-        RunState::Running { pcpu: _ } => wrong_state(state),
-        RunState::Blocked => wrong_state(state),
+        RunState::Runnable | RunState::Running { pcpu: _ } | RunState::Blocked => found_in(state),
     }
 }
 
@@ -120,7 +118,6 @@ fn ran(v: VirtualCpu, pcpu: Pcpu, now: Ticks) -> Change
 {
     let state = v.state;
     match state {
-        RunState::Offline => wrong_state(state),
         RunState::Runnable => {
             if masks::mask_permits(v.affinity, pcpu) {
                 Change::Enter {
@@ -131,8 +128,7 @@ fn ran(v: VirtualCpu, pcpu: Pcpu, now: Ticks) -> Change
                 Change::Refuse(Answer::NotAffine)
             }
         }
-        RunState::Running { pcpu: _ } => wrong_state(state),
-        RunState::Blocked => wrong_state(state),
+        RunState::Offline | RunState::Running { pcpu: _ } | RunState::Blocked => found_in(state),
     }
 }
 
@@ -141,13 +137,11 @@ fn preempted(v: VirtualCpu, now: Ticks) -> Change
 {
     let state = v.state;
     match state {
-        RunState::Offline => wrong_state(state),
-        RunState::Runnable => wrong_state(state),
         RunState::Running { pcpu } => Change::Leave {
             vcpu: left(v, RunState::Runnable, now),
             pcpu,
         },
-        RunState::Blocked => wrong_state(state),
+        RunState::Offline | RunState::Runnable | RunState::Blocked => found_in(state),
     }
 }
 
@@ -156,13 +150,12 @@ fn blocked(v: VirtualCpu, now: Ticks) -> Change
 {
     let state = v.state;
     match state {
-        RunState::Offline => wrong_state(state),
         RunState::Runnable => Change::Write(with_state(v, RunState::Blocked)),
         RunState::Running { pcpu } => Change::Leave {
             vcpu: left(v, RunState::Blocked, now),
             pcpu,
         },
-        RunState::Blocked => wrong_state(state),
+        RunState::Offline | RunState::Blocked => found_in(state),
     }
 }
 
@@ -171,10 +164,8 @@ fn woken(v: VirtualCpu) -> Change
 {
     let state = v.state;
     match state {
-        RunState::Offline => wrong_state(state),
-        RunState::Runnable => wrong_state(state),
-        RunState::Running { pcpu: _ } => wrong_state(state),
         RunState::Blocked => Change::Write(with_state(v, RunState::Runnable)),
+        RunState::Offline | RunState::Runnable | RunState::Running { pcpu: _ } => found_in(state),
     }
 }
 
@@ -203,13 +194,13 @@ fn offlined(v: VirtualCpu, full: u64, now: Ticks) -> Change
 {
     let state = v.state;
     match state {
-        RunState::Offline => wrong_state(state),
         RunState::Runnable => Change::Write(with_mask(with_state(v, RunState::Offline), full)),
         RunState::Running { pcpu } => Change::Leave {
             vcpu: with_mask(left(v, RunState::Offline, now), full),
             pcpu,
         },
         RunState::Blocked => Change::Write(with_mask(with_state(v, RunState::Offline), full)),
+        RunState::Offline => found_in(state),
     }
 }
 

@@ -24,7 +24,7 @@ use Rattle.changes.specs.declared.Request.{Request}
 use Rattle.changes.specs.declared.Change.{Change}
 use Rattle.changes.specs.declared.Change.the-variants.{Refuse, Write, Enter, Leave}
 use Rattle.changes.specs.Records.{withState, dispatched, left}
-use Rattle.changes.specs.Changes.{wrongState, admitted, ran, preempted, blocked, woken, masked, offlined, changed, reaches}
+use Rattle.changes.specs.Changes.{foundIn, admitted, ran, preempted, blocked, woken, masked, offlined, changed, reaches}
 use Rattle.sched.proofs.Laws.{NotRunning, Legal, stays, keeps, busy, goes-on, comes-off, off-nr, ready-nr, blocked-nr}
 use Rattle.demand3.specs.Dated.{onto, off}
 use Rattle.demand3.specs.Book.{Line, Book, noted, marked, remasked, opened, closed, Note, refuse, write, move, Entry, entered, admitNote, runNote, preemptNote, blockNote, wakeNote, offlineNote, maskNote}
@@ -73,26 +73,26 @@ requestNote l (Request.Offline now) full taken = offlineNote l full now (l .stat
 module _ (s : System) {l : Line} {v : VirtualCpu} (y : Says l v) where
   admit-match : (st : RunState) → v .state ≡ st → Match s (admitted v st) (admitNote l st)
   admit-match Offline e = both-write (in-state y Runnable ready-nr)
-  admit-match Runnable e = both-refuse (wrongState Runnable)
-  admit-match (Running p) e = both-refuse (wrongState (Running p))
-  admit-match Blocked e = both-refuse (wrongState Blocked)
+  admit-match Runnable e = both-refuse (foundIn Runnable)
+  admit-match (Running p) e = both-refuse (foundIn (Running p))
+  admit-match Blocked e = both-refuse (foundIn Blocked)
 
   preempt-match : (now : ℕ) (st : RunState) → v .state ≡ st → Match s (preempted v now st) (preemptNote l now st)
-  preempt-match now Offline e = both-refuse (wrongState Offline)
-  preempt-match now Runnable e = both-refuse (wrongState Runnable)
+  preempt-match now Offline e = both-refuse (foundIn Offline)
+  preempt-match now Runnable e = both-refuse (foundIn Runnable)
   preempt-match now (Running p) e = both-leave (off-pcpu y p now Runnable e ready-nr)
-  preempt-match now Blocked e = both-refuse (wrongState Blocked)
+  preempt-match now Blocked e = both-refuse (foundIn Blocked)
 
   block-match : (now : ℕ) (st : RunState) → v .state ≡ st → Match s (blocked v now st) (blockNote l now st)
-  block-match now Offline e = both-refuse (wrongState Offline)
+  block-match now Offline e = both-refuse (foundIn Offline)
   block-match now Runnable e = both-write (in-state y Blocked blocked-nr)
   block-match now (Running p) e = both-leave (off-pcpu y p now Blocked e blocked-nr)
-  block-match now Blocked e = both-refuse (wrongState Blocked)
+  block-match now Blocked e = both-refuse (foundIn Blocked)
 
   wake-match : (st : RunState) → v .state ≡ st → Match s (woken v st) (wakeNote l st)
-  wake-match Offline e = both-refuse (wrongState Offline)
-  wake-match Runnable e = both-refuse (wrongState Runnable)
-  wake-match (Running p) e = both-refuse (wrongState (Running p))
+  wake-match Offline e = both-refuse (foundIn Offline)
+  wake-match Runnable e = both-refuse (foundIn Runnable)
+  wake-match (Running p) e = both-refuse (foundIn (Running p))
   wake-match Blocked e = both-write (in-state y Runnable ready-nr)
 
   mask-match : (m : ℕ) (st : RunState) → v .state ≡ st → Match s (masked v m st) (maskNote l m st)
@@ -106,13 +106,13 @@ module _ (s : System) {l : Line} {v : VirtualCpu} (y : Says l v) where
   mask-match m Blocked e = both-write (new-mask y m)
 
   offline-match : (full now : ℕ) (st : RunState) → v .state ≡ st → Match s (offlined v full now st) (offlineNote l full now st)
-  offline-match full now Offline e = both-refuse (wrongState Offline)
+  offline-match full now Offline e = both-refuse (foundIn Offline)
   offline-match full now Runnable e = both-write (new-mask (in-state y Offline off-nr) full)
   offline-match full now (Running p) e = both-leave (new-mask (off-pcpu y p now Offline e off-nr) full)
   offline-match full now Blocked e = both-write (new-mask (in-state y Offline off-nr) full)
 
   run-match : (p now : ℕ) (taken : Bool) → taken ≡ not (isIdle (occupantAt s p)) → (st : RunState) → Match s (ran v p now st) (runNote l p taken now st)
-  run-match p now taken f Offline = both-refuse (wrongState Offline)
+  run-match p now taken f Offline = both-refuse (foundIn Offline)
   run-match p now taken f Runnable =
       subst (λ (m : ℕ). Match s (ran v p now Runnable) (cond (permits m p) (cond taken (refuse 5) (move onto p now (opened l p now))) (refuse 6))) (sym (y .mask))
       (go (permits (v .affinity) p))
@@ -121,8 +121,8 @@ module _ (s : System) {l : Line} {v : VirtualCpu} (y : Says l v) where
           → Match s (cond b (Enter (dispatched v p now) p) (Refuse NotAffine)) (cond b (cond taken (refuse 5) (move onto p now (opened l p now))) (refuse 6))
       go true = both-enter now taken f (on-pcpu y p now)
       go false = both-refuse NotAffine
-  run-match p now taken f (Running q) = both-refuse (wrongState (Running q))
-  run-match p now taken f Blocked = both-refuse (wrongState Blocked)
+  run-match p now taken f (Running q) = both-refuse (foundIn (Running q))
+  run-match p now taken f Blocked = both-refuse (foundIn Blocked)
 
   -- the book goes by its own state, which is the system's
   by-state : {c : Change} (note : RunState → Note) → Match s c (note (v .state)) → Match s c (note (l .state))

@@ -12,7 +12,7 @@ use Rattle.system.specs.declared.Occupant.the-variants.{Idle, Vcpu}
 use Rattle.system.specs.declared.Answer.the-variants.{Done, BadDomain, BadVcpu, BadPcpu, PcpuBusy, NotAffine}
 use Rattle.system.specs.Answers.{told}
 use Rattle.system.specs.States.{runsOn}
-use Rattle.changes.specs.Changes.{wrongState}
+use Rattle.changes.specs.Changes.{foundIn}
 use Rattle.moves.specs.declared.Choice.{Choice}
 use Rattle.moves.specs.declared.Choice.the-variants.{Run, Preempt, Rest}
 use Rattle.scan.specs.Scan.{Pick, nobody, at, scan, some, never}
@@ -100,42 +100,42 @@ identified k b d v n =
     (unwritten (told BadDomain) b)
 
 -- a vCPU found in a state that the call does not accept
-abbrev pub wrong : RunState → Note
-wrong st = refuse (told (wrongState st))
+abbrev pub foundNote : RunState → Note
+foundNote st = refuse (told (foundIn st))
 
 abbrev pub admitNote : Line → RunState → Note
 admitNote l Offline = write (marked l Runnable)
-admitNote l Runnable = wrong Runnable
-admitNote l (Running p) = wrong (Running p)
-admitNote l Blocked = wrong Blocked
+admitNote l Runnable = foundNote Runnable
+admitNote l (Running p) = foundNote (Running p)
+admitNote l Blocked = foundNote Blocked
 
 abbrev pub runNote : Line → ℕ → Bool → ℕ → RunState → Note
-runNote l p busy now Offline = wrong Offline
+runNote l p busy now Offline = foundNote Offline
 runNote l p busy now Runnable =
     cond (permits (l .mask) p) (cond busy (refuse (told PcpuBusy)) (move onto p now (opened l p now))) (refuse (told NotAffine))
-runNote l p busy now (Running q) = wrong (Running q)
-runNote l p busy now Blocked = wrong Blocked
+runNote l p busy now (Running q) = foundNote (Running q)
+runNote l p busy now Blocked = foundNote Blocked
 
 abbrev pub preemptNote : Line → ℕ → RunState → Note
-preemptNote l now Offline = wrong Offline
-preemptNote l now Runnable = wrong Runnable
+preemptNote l now Offline = foundNote Offline
+preemptNote l now Runnable = foundNote Runnable
 preemptNote l now (Running p) = move off p now (closed l Runnable now)
-preemptNote l now Blocked = wrong Blocked
+preemptNote l now Blocked = foundNote Blocked
 
 abbrev pub blockNote : Line → ℕ → RunState → Note
-blockNote l now Offline = wrong Offline
+blockNote l now Offline = foundNote Offline
 blockNote l now Runnable = write (marked l Blocked)
 blockNote l now (Running p) = move off p now (closed l Blocked now)
-blockNote l now Blocked = wrong Blocked
+blockNote l now Blocked = foundNote Blocked
 
 abbrev pub wakeNote : Line → RunState → Note
-wakeNote l Offline = wrong Offline
-wakeNote l Runnable = wrong Runnable
-wakeNote l (Running p) = wrong (Running p)
+wakeNote l Offline = foundNote Offline
+wakeNote l Runnable = foundNote Runnable
+wakeNote l (Running p) = foundNote (Running p)
 wakeNote l Blocked = write (marked l Runnable)
 
 abbrev pub offlineNote : Line → ℕ → ℕ → RunState → Note
-offlineNote l full now Offline = wrong Offline
+offlineNote l full now Offline = foundNote Offline
 offlineNote l full now Runnable = write (remasked (marked l Offline) full)
 offlineNote l full now (Running p) = move off p now (remasked (closed l Offline now) full)
 offlineNote l full now Blocked = write (remasked (marked l Offline) full)

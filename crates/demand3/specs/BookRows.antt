@@ -65,6 +65,10 @@ runs = Call.Admit 0 0 ∷ Call.Run 0 0 1 5 ∷ []
 abbrev off-mask : List Call
 off-mask = runs ++ (Call.Admit 0 1 ∷ Call.SetAffinity 0 1 1 ∷ [])
 
+-- 0/0 is Blocked
+abbrev sleeps : List Call
+sleeps = runs ++ (Call.Block 0 0 9 ∷ [])
+
 -- 0/0, 0/1 and 1/1 wait, and 0/1 admits pCPU 0 alone
 abbrev waiting : List Call
 waiting = Call.Admit 0 0 ∷ Call.Admit 0 1 ∷ Call.SetAffinity 0 1 1 ∷ Call.Admit 1 1 ∷ []
@@ -132,23 +136,29 @@ answered =
     tells [] (Call.Run 2 2 2 0) 3
     ∷ tells [] (Call.Run 2 2 0 0) 1
     ∷ tells [] (Call.Run 0 2 0 0) 2
-    ∷ tells runs (Call.Run 0 1 1 9) 4
-    ∷ tells runs (Call.Run 0 0 0 9) 4
+    ∷ tells runs (Call.Run 0 1 1 9) 10
+    ∷ tells runs (Call.Run 0 0 0 9) 11
+    ∷ tells sleeps (Call.Run 0 0 0 9) 12
     ∷ tells off-mask (Call.Run 0 1 1 9) 6
     ∷ tells (runs ++ (Call.Admit 1 1 ∷ [])) (Call.Run 1 1 1 9) 5
     ∷ tells off-mask (Call.Run 0 1 0 9) 0
-    -- the others test the domain, the vCPU and the state
+    -- the others test the domain, the vCPU and the state: Offline is told 10, Runnable 4, Running 11, Blocked 12
     ∷ tells [] (Call.Preempt 2 2 0) 1
     ∷ tells [] (Call.Block 1 2 0) 2
     ∷ tells [] (Call.Admit 1 1) 0
-    ∷ tells runs (Call.Admit 0 0) 4
-    ∷ tells (Call.Admit 0 0 ∷ []) (Call.Preempt 0 0 0) 4
-    ∷ tells [] (Call.Block 0 0 0) 4
-    ∷ tells (runs ++ (Call.Block 0 0 9 ∷ [])) (Call.Block 0 0 9) 4
-    ∷ tells (runs ++ (Call.Block 0 0 9 ∷ [])) (Call.Wake 0 0) 0
-    ∷ tells [] (Call.Wake 0 0) 4
-    ∷ tells runs (Call.Wake 0 0) 4
-    ∷ tells [] (Call.Offline 0 0 0) 4
+    ∷ tells waiting (Call.Admit 0 0) 4
+    ∷ tells runs (Call.Admit 0 0) 11
+    ∷ tells sleeps (Call.Admit 0 0) 12
+    ∷ tells [] (Call.Preempt 0 0 0) 10
+    ∷ tells waiting (Call.Preempt 0 0 0) 4
+    ∷ tells sleeps (Call.Preempt 0 0 9) 12
+    ∷ tells [] (Call.Block 0 0 0) 10
+    ∷ tells sleeps (Call.Block 0 0 9) 12
+    ∷ tells sleeps (Call.Wake 0 0) 0
+    ∷ tells [] (Call.Wake 0 0) 10
+    ∷ tells waiting (Call.Wake 0 0) 4
+    ∷ tells runs (Call.Wake 0 0) 11
+    ∷ tells [] (Call.Offline 0 0 0) 10
     -- a mask, clipped, must not exclude the pCPU that the vCPU is Running on; elsewhere it may be empty
     ∷ tells runs (Call.SetAffinity 0 0 5) 6
     ∷ tells runs (Call.SetAffinity 0 0 0) 6

@@ -18,7 +18,7 @@ use Rattle.system.specs.Reads.{vcpuAt, stateAt, vcpuCount, fullAffinity}
 use Rattle.system.specs.Slots.{domains, vcpus, pcpus, slot, slot-below, Present}
 use Rattle.system.specs.Writes.{Tables, wrote-vcpu, wrote-both}
 use Rattle.verdict.specs.Sound.{Sound, sound-iff}
-use Rattle.changes.specs.Changes.{wrongState, offlined, reaches}
+use Rattle.changes.specs.Changes.{foundIn, offlined, reaches}
 use Rattle.changes.specs.Records.{left}
 use Rattle.changes.specs.declared.Request.{Request}
 use Rattle.changes.specs.declared.Change.{Change}
@@ -119,7 +119,7 @@ module _ (s : System) (t : Tables s) (S : Sound s) (d now : ℕ) (a : d < domain
       (λ e. n (ap (λ (v : VirtualCpu). v .state) (sym (until k k (omega arith) (omega arith))) ∙ e)))
 
   told-down : (k : ℕ) → k < vcpus s → stateAt s (slot d k) ≡ Offline
-      → offline (offlinedEach s d now k) d k now ≡ refused (wrongState Offline) (offlinedEach s d now k)
+      → offline (offlinedEach s d now k) d k now ≡ refused (foundIn Offline) (offlinedEach s d now k)
   unfolding applied
   told-down k l e =
       let f : stateAt (after k) (slot d k) ≡ Offline = ap (λ (v : VirtualCpu). v .state) (until k k (omega arith) (omega arith)) ∙ e in

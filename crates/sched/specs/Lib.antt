@@ -1,6 +1,7 @@
 pub mod Steps
 pub mod Internal
 pub mod Answered
+pub mod Found
 pub mod Invariants
 pub mod CanRun
 pub mod NotAffine

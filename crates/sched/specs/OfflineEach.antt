@@ -7,7 +7,7 @@ use Rattle.system.specs.declared.Answer.the-variants.{Done}
 use Rattle.system.specs.Answers.{told}
 use Rattle.system.specs.Reads.{stateAt, vcpuCount}
 use Rattle.system.specs.Slots.{slot}
-use Rattle.changes.specs.Changes.{wrongState}
+use Rattle.changes.specs.Changes.{foundIn}
 use Rattle.sched.specs.Steps.{refused, done, offline, offlineAll}
 
 -- the system after the call `offline` of the first k vCPUs of domain d, one after another
@@ -23,6 +23,6 @@ pub record OfflinesEach (s : System) (d now : ℕ) : Type 0 where
       → (offline (offlinedEach s d now k) d k now) .number ≡ told Done
   -- one of a vCPU that was is refused, and changes nothing
   pub down : (k : ℕ) → k < vcpuCount s d → stateAt s (slot d k) ≡ Offline
-      → offline (offlinedEach s d now k) d k now ≡ refused (wrongState Offline) (offlinedEach s d now k)
+      → offline (offlinedEach s d now k) d k now ≡ refused (foundIn Offline) (offlinedEach s d now k)
   -- then all are Offline
   pub all : (k : ℕ) → k < vcpuCount s d → stateAt ((offlineAll s d now) .system) (slot d k) ≡ Offline

@@ -40,7 +40,8 @@ told r = r .number
 abbrev tells : (ℕ → ℕ → SystemOutcome) → ℕ → ℕ → ℕ → ℕ → List ℕ
 tells call d v e u = told (call 2 9) ∷ told (call 0 3) ∷ told (call d v) ∷ told (call e u) ∷ []
 
--- 8 first, also of ids out of range; a run: 3, 1, 2, 4, 6, 5; any other call: 1, 2, then 4 or 6
+-- 8 first, also of ids out of range; a run: 3, 1, 2, the state's number, 6, 5; any other call: 1, 2, then the state's number or 6. The
+-- state's is 10 Offline, 4 Runnable, 11 Running, 12 Blocked
 abbrev pub orders : List Row
 orders =
     rows (tells (admit damaged) 0 0 0 2) (8 ∷ 8 ∷ 8 ∷ 8 ∷ [])
@@ -53,15 +54,20 @@ orders =
     ∷ rows (told (offlineAll damaged 0 0) ∷ told (offlineAll damaged 9 0) ∷ []) (8 ∷ 8 ∷ [])
     -- onto pCPU 2, which is not there; onto pCPU 0, which is held; onto pCPU 1, which is idle
     ∷ rows (tells (λ d v. run host d v 2 0) 0 2 1 0) (3 ∷ 3 ∷ 3 ∷ 3 ∷ [])
-    ∷ rows (tells (λ d v. run host d v 0 0) 0 2 1 0) (1 ∷ 2 ∷ 4 ∷ 5 ∷ [])
-    ∷ rows (tells (λ d v. run host d v 0 0) 0 1 1 1) (1 ∷ 2 ∷ 4 ∷ 6 ∷ [])
-    ∷ rows (tells (λ d v. run host d v 1 0) 0 0 1 0) (1 ∷ 2 ∷ 4 ∷ 0 ∷ [])
-    ∷ rows (tells (admit host) 0 0 0 2) (1 ∷ 2 ∷ 4 ∷ 0 ∷ [])
-    ∷ rows (tells (λ d v. preempt host d v 0) 0 1 0 0) (1 ∷ 2 ∷ 4 ∷ 0 ∷ [])
-    ∷ rows (tells (λ d v. block host d v 0) 0 2 1 0) (1 ∷ 2 ∷ 4 ∷ 0 ∷ [])
-    ∷ rows (tells (wake host) 0 0 0 1) (1 ∷ 2 ∷ 4 ∷ 0 ∷ [])
+    ∷ rows (tells (λ d v. run host d v 0 0) 0 2 1 0) (1 ∷ 2 ∷ 10 ∷ 5 ∷ [])
+    ∷ rows (tells (λ d v. run host d v 0 0) 0 1 1 1) (1 ∷ 2 ∷ 12 ∷ 6 ∷ [])
+    ∷ rows (tells (λ d v. run host d v 1 0) 0 0 1 0) (1 ∷ 2 ∷ 11 ∷ 0 ∷ [])
+    ∷ rows (tells (λ d v. run host d v 1 0) 0 1 0 2) (1 ∷ 2 ∷ 12 ∷ 10 ∷ [])
+    ∷ rows (tells (admit host) 0 0 0 2) (1 ∷ 2 ∷ 11 ∷ 0 ∷ [])
+    ∷ rows (tells (admit host) 0 1 1 0) (1 ∷ 2 ∷ 12 ∷ 4 ∷ [])
+    ∷ rows (tells (λ d v. preempt host d v 0) 0 1 0 0) (1 ∷ 2 ∷ 12 ∷ 0 ∷ [])
+    ∷ rows (tells (λ d v. preempt host d v 0) 0 2 1 0) (1 ∷ 2 ∷ 10 ∷ 4 ∷ [])
+    ∷ rows (tells (λ d v. block host d v 0) 0 2 1 0) (1 ∷ 2 ∷ 10 ∷ 0 ∷ [])
+    ∷ rows (tells (λ d v. block host d v 0) 0 1 0 0) (1 ∷ 2 ∷ 12 ∷ 0 ∷ [])
+    ∷ rows (tells (wake host) 0 0 0 1) (1 ∷ 2 ∷ 11 ∷ 0 ∷ [])
+    ∷ rows (tells (wake host) 0 2 1 0) (1 ∷ 2 ∷ 10 ∷ 4 ∷ [])
     ∷ rows (tells (λ d v. setAffinity host d v 2) 0 0 0 1) (1 ∷ 2 ∷ 6 ∷ 0 ∷ [])
-    ∷ rows (tells (λ d v. offline host d v 0) 0 2 0 1) (1 ∷ 2 ∷ 4 ∷ 0 ∷ [])
+    ∷ rows (tells (λ d v. offline host d v 0) 0 2 0 1) (1 ∷ 2 ∷ 10 ∷ 0 ∷ [])
     ∷ []
 
 -- ---- what is left

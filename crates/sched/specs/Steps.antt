@@ -36,7 +36,7 @@ applied s i (Enter v p) =
     tested (isIdle (occupantAt s p)) PcpuBusy s (done (putOccupant (putVcpu s i v) p (Vcpu (i / 8) (i % 8))))
 applied s i (Leave v p) = done (putOccupant (putVcpu s i v) p Idle)
 
--- a request of the vCPU at slot i: 4 and 6 are tested by its change, 5 as the change is applied
+-- a request of the vCPU at slot i: the state and the mask are tested by its change, who holds the pCPU as the change is applied
 abbrev pub changeOf : System → ℕ → Request → Change
 changeOf s i q = changed q (fullAffinity s) (vcpuAt s i)
 

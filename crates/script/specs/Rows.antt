@@ -54,6 +54,8 @@ told =
     -- what is refused keeps the earlier host, where 0/0 is not Offline: a build, a kind above 10, a call
     ∷ rows (replayed (all (build 1 1 1 ∷ admit ∷ build 17 1 1 ∷ admit ∷ []))) (ascii "1 0 0\n2 0 0\n3 7 0\n4 4 0\n")
     ∷ rows (replayed (all (build 1 1 1 ∷ admit ∷ ofKind 11 ∷ admit ∷ admit ∷ []))) (ascii "1 0 0\n2 0 0\n3 9 0\n4 4 0\n5 4 0\n")
+    -- a call of one that is Offline, told in two digits
+    ∷ rows (replayed (all (build 1 1 1 ∷ ofKind 5 ∷ []))) (ascii "1 0 0\n2 10 0\n")
     -- a second build replaces the host: 0/0 is Offline again
     ∷ rows (replayed (all (build 1 1 1 ∷ admit ∷ build 1 1 1 ∷ admit ∷ []))) (ascii "1 0 0\n2 0 0\n3 0 0\n4 0 0\n")
     ∷ []

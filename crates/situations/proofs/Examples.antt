@@ -80,7 +80,7 @@ abbrev pub forward-book : Book
 forward-book = bookAfter two-pcpus unsliced (blankBook two-pcpus) forward
 
 -- what each call is told, its dated moves, and that 0/0 has a run time equal to the clock of its run and to the latest
-pub forward-does : (map (λ (r : Step). r .number) (steps unsliced forward) ≡ 0 ∷ 0 ∷ 0 ∷ 4 ∷ 0 ∷ 0 ∷ 0 ∷ [])
+pub forward-does : (map (λ (r : Step). r .number) (steps unsliced forward) ≡ 0 ∷ 0 ∷ 0 ∷ 11 ∷ 0 ∷ 0 ∷ 0 ∷ [])
     × (movesAfter two-pcpus unsliced (blankBook two-pcpus) forward
     ≡ dated onto 0 0 0 ∷ dated onto 1 1 0 ∷ dated off 0 0 7 ∷ dated off 1 1 7 ∷ dated onto 0 0 7 ∷ [])
     × ((forward-book 0) .state ≡ Running 0) × ((forward-book 0) .time ≡ 7) × ((forward-book 0) .clock ≡ 7)

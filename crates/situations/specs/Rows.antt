@@ -44,19 +44,19 @@ ids call = told mixed (call 9 9) ∷ told mixed (call 9 0) ∷ told mixed (call 
 abbrev states : (ℕ → ℕ → Call) → List ℕ
 states call = told mixed (call 1 1) ∷ told mixed (call 0 2) ∷ told mixed (call 0 0) ∷ told mixed (call 1 0) ∷ []
 
--- 1 before 2, both before 4 and 6; 4 and 6 by the state
+-- 1 before 2, both before what is told by the state: 10 Offline, 4 Runnable, 11 Running, 12 Blocked, or 6
 abbrev pub tests : List Row
 tests =
     rows (ids Call.Admit) (1 ∷ 1 ∷ 2 ∷ 2 ∷ [])
-    ∷ rows (states Call.Admit) (0 ∷ 4 ∷ 4 ∷ 4 ∷ [])
+    ∷ rows (states Call.Admit) (0 ∷ 4 ∷ 11 ∷ 12 ∷ [])
     ∷ rows (ids (λ d v. Call.Preempt d v 0)) (1 ∷ 1 ∷ 2 ∷ 2 ∷ [])
-    ∷ rows (states (λ d v. Call.Preempt d v 0)) (4 ∷ 4 ∷ 0 ∷ 4 ∷ [])
+    ∷ rows (states (λ d v. Call.Preempt d v 0)) (10 ∷ 4 ∷ 0 ∷ 12 ∷ [])
     ∷ rows (ids (λ d v. Call.Block d v 0)) (1 ∷ 1 ∷ 2 ∷ 2 ∷ [])
-    ∷ rows (states (λ d v. Call.Block d v 0)) (4 ∷ 0 ∷ 0 ∷ 4 ∷ [])
+    ∷ rows (states (λ d v. Call.Block d v 0)) (10 ∷ 0 ∷ 0 ∷ 12 ∷ [])
     ∷ rows (ids Call.Wake) (1 ∷ 1 ∷ 2 ∷ 2 ∷ [])
-    ∷ rows (states Call.Wake) (4 ∷ 4 ∷ 4 ∷ 0 ∷ [])
+    ∷ rows (states Call.Wake) (10 ∷ 4 ∷ 11 ∷ 0 ∷ [])
     ∷ rows (ids (λ d v. Call.Offline d v 0)) (1 ∷ 1 ∷ 2 ∷ 2 ∷ [])
-    ∷ rows (states (λ d v. Call.Offline d v 0)) (4 ∷ 0 ∷ 0 ∷ 0 ∷ [])
+    ∷ rows (states (λ d v. Call.Offline d v 0)) (10 ∷ 0 ∷ 0 ∷ 0 ∷ [])
     -- a mask without pCPU 0, and one with it
     ∷ rows (ids (λ d v. Call.SetAffinity d v 2)) (1 ∷ 1 ∷ 2 ∷ 2 ∷ [])
     ∷ rows (states (λ d v. Call.SetAffinity d v 2)) (0 ∷ 0 ∷ 6 ∷ 0 ∷ [])
@@ -65,8 +65,8 @@ tests =
     ∷ rows (ids (λ d v. Call.Run d v 2 0)) (3 ∷ 3 ∷ 3 ∷ 3 ∷ [])
     ∷ rows (states (λ d v. Call.Run d v 2 0)) (3 ∷ 3 ∷ 3 ∷ 3 ∷ [])
     ∷ rows (ids (λ d v. Call.Run d v 0 0)) (1 ∷ 1 ∷ 2 ∷ 2 ∷ [])
-    ∷ rows (states (λ d v. Call.Run d v 0 0)) (4 ∷ 5 ∷ 4 ∷ 4 ∷ [])
-    ∷ rows (states (λ d v. Call.Run d v 1 0)) (4 ∷ 0 ∷ 4 ∷ 4 ∷ [])
+    ∷ rows (states (λ d v. Call.Run d v 0 0)) (10 ∷ 5 ∷ 11 ∷ 12 ∷ [])
+    ∷ rows (states (λ d v. Call.Run d v 1 0)) (10 ∷ 0 ∷ 11 ∷ 12 ∷ [])
     -- onto pCPU 0, which the mask of 0/1 does not admit
     ∷ row (told mixed (Call.Run 0 1 0 0)) 6
     -- ids out of range: weight and `offline_all` are told 0

@@ -119,7 +119,7 @@ table =
     -- 2 domains, 2 pCPUs: run of domain 9 on pCPU 2
     row (told (host 2 1 2 []) (Call.Run 9 0 2 0)) 3
     -- run of an Offline vCPU on a busy pCPU
-    ∷ row (told (host 1 2 1 one-runs) (Call.Run 0 1 0 0)) 4
+    ∷ row (told (host 1 2 1 one-runs) (Call.Run 0 1 0 0)) 10
     -- off-mask and busy together
     ∷ row (told (host 1 2 2 off-mask) (Call.Run 0 1 0 0)) 6
     -- the empty mask while Running, and while Runnable

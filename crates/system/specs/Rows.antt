@@ -10,8 +10,9 @@ use Rattle.system.specs.declared.Occupant.the-variants.{Idle, Vcpu}
 use Rattle.system.specs.declared.System.{System}
 use Rattle.system.specs.declared.MaybeState.{MaybeState}
 use Rattle.system.specs.declared.MaybeU64.{MaybeU64}
-use Rattle.system.specs.declared.Answer.the-variants.{Done, BadDomain, BadVcpu, BadPcpu, WrongState}
-use Rattle.system.specs.declared.Answer.the-variants.{PcpuBusy, NotAffine, TooLarge, Unsound, BadScript}
+use Rattle.system.specs.declared.Answer.the-variants.{Done, BadDomain, BadVcpu, BadPcpu, PcpuBusy, NotAffine}
+use Rattle.system.specs.declared.Answer.the-variants.{TooLarge, Unsound, BadScript}
+use Rattle.system.specs.declared.Answer.the-variants.{FoundOffline, FoundRunnable, FoundRunning, FoundBlocked}
 use Rattle.system.specs.Answers.{told}
 use Rattle.system.specs.Records.{inFlight}
 use Rattle.system.specs.Shape.{fresh, builtSystem}
@@ -26,12 +27,15 @@ numbers =
     ∷ row (told BadDomain) 1
     ∷ row (told BadVcpu) 2
     ∷ row (told BadPcpu) 3
-    ∷ row (told WrongState) 4
+    ∷ row (told FoundRunnable) 4
     ∷ row (told PcpuBusy) 5
     ∷ row (told NotAffine) 6
     ∷ row (told TooLarge) 7
     ∷ row (told Unsound) 8
     ∷ row (told BadScript) 9
+    ∷ row (told FoundOffline) 10
+    ∷ row (told FoundRunning) 11
+    ∷ row (told FoundBlocked) 12
     ∷ []
 
 pub numbers-due : AllDue numbers

@@ -67,12 +67,16 @@ pub struct System {
 }
 
 /// What a call is told.
+// The states found stand in the order of `RunState`: one comes from the other by a sum, not by a jump.
 pub enum Answer {
     Done,
     BadDomain,
     BadVcpu,
     BadPcpu,
-    WrongState,
+    FoundOffline,
+    FoundRunnable,
+    FoundRunning,
+    FoundBlocked,
     PcpuBusy,
     NotAffine,
     TooLarge,
@@ -89,12 +93,15 @@ pub fn number_of(answer: Answer) -> u64
         Answer::BadDomain => 1,
         Answer::BadVcpu => 2,
         Answer::BadPcpu => 3,
-        Answer::WrongState => 4,
+        Answer::FoundRunnable => 4,
         Answer::PcpuBusy => 5,
         Answer::NotAffine => 6,
         Answer::TooLarge => 7,
         Answer::Unsound => 8,
         Answer::BadScript => 9,
+        Answer::FoundOffline => 10,
+        Answer::FoundRunning => 11,
+        Answer::FoundBlocked => 12,
     }
 }
 

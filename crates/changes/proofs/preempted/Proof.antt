@@ -1,10 +1,12 @@
 -- `changes::preempted` meets its contract. Assumes nothing.
+use mathlib.Core.Path.{_∙_}
 use borrow.Author.Needs.{needs}
 use Rattle.changes.specs.Records.{left}
+use Rattle.changes.proofs.Refusals.{preempt-refuses}
 use Rattle.changes.proofs.preempted.Statement.{statement}
 use Rattle.changes.proofs.preempted.Tie as tie
 
-off : tie.Need-returns-3
+off : tie.Need-returns
 unfolding left
 off c = rw (c .before .before .state .given .1, c .left .ensures)
 
@@ -14,13 +16,6 @@ preempted-spec =
     (tie.spec
     (λ c. search needs)
     (λ c κs. search needs)
-    (λ c. search needs)
     (λ c κs. search needs)
-    (λ c. search needs)
-    (λ c κs. search needs)
-    (λ c. search needs)
-    (λ c κs. search needs)
-    (λ c. rw (c .before .enum-told .given .1) (c .wrong-state .ensures))
-    (λ c. rw (c .before .enum-told2 .given .1) (c .wrong-state2 .ensures))
     off
-    (λ c. rw (c .before .enum-told3 .given .1) (c .wrong-state3 .ensures)))
+    (λ c. let a = c .before .before .args in c .found-in .ensures ∙ preempt-refuses (a .v) (a .now) (a .v .state) (c .before .match .keys2)))

@@ -2,14 +2,15 @@
 use mathlib.Core.Path.{sym, _∙_}
 use borrow.Author.Needs.{needs}
 use Rattle.changes.specs.Records.{dispatched}
+use Rattle.changes.proofs.Refusals.{run-refuses}
 use Rattle.changes.proofs.ran.Statement.{statement}
 use Rattle.changes.proofs.ran.Tie as tie
 
-onto : tie.Need-returns-2
+onto : tie.Need-returns
 unfolding dispatched
 onto c =
     let m = c .before .before in
-    rw (m .before .enum-told2 .given .1, sym (m .mask-permits .ensures) ∙ c .before .if1 .taken, c .dispatched .ensures)
+    rw (m .before .enum-told .given .1, sym (m .mask-permits .ensures) ∙ c .before .if1 .taken, c .dispatched .ensures)
 
 pub ran-spec : {M : Type 1} → statement M
 ran-spec =
@@ -17,15 +18,8 @@ ran-spec =
     (tie.spec
     (λ c. search needs)
     (λ c κs. search needs)
-    (λ c. search needs)
     (λ c κs. search needs)
     (λ c κs. search needs)
-    (λ c. search needs)
-    (λ c κs. search needs)
-    (λ c. search needs)
-    (λ c κs. search needs)
-    (λ c. rw (c .before .enum-told .given .1) (c .wrong-state .ensures))
     onto
-    (λ c. rw (c .before .before .enum-told2 .given .1, sym (c .before .mask-permits .ensures) ∙ c .if1 .left))
-    (λ c. rw (c .before .enum-told3 .given .1) (c .wrong-state2 .ensures))
-    (λ c. rw (c .before .enum-told4 .given .1) (c .wrong-state3 .ensures)))
+    (λ c. rw (c .before .before .enum-told .given .1, sym (c .before .mask-permits .ensures) ∙ c .if1 .left))
+    (λ c. let a = c .before .before .args in c .found-in .ensures ∙ run-refuses (a .v) (a .pcpu) (a .now) (a .v .state) (c .before .match .keys2)))
