@@ -6,16 +6,12 @@ use native.Mathlib.Numerals.{add-one}
 use native.Mathlib.Nat.{add-comm, zero-mul, one-mul, pow-suc, mul-comm, div-div-eq-div-mul, div-one, mod-lt}
 use native.Mathlib.Omega.{arith}
 use lib.Dec.{eqb, ltb, lit<}
-use lib.Pow.{shl-exact, pow-pos}
+use lib.Pow.{pow-pos}
 use lib.Bits.{bitAnd, and-high, and-zero-r}
 use lib.Count.{trailingZeros, under}
 use borrow.Author.Tests.{lt-ltb, ne-eqb}
 use Rattle.masks.specs.Masks.{bit, permits, pcpuBit, first, lowest}
 use Rattle.masks.specs.Laws.{first-cong}
-
--- one bit shifted left stays in the word
-pub one-shl : {p : ℕ} → p < 64 → 1 * 2 ^ p % 2 ^ 64 ≡ 2 ^ p
-one-shl {p} h = rw (shl-exact {a = 1} 1 p 64 (omega arith) (omega arith)) (omega arith)
 
 -- a word meets one bit where that bit is set
 meets-bit : (m p : ℕ) → not (eqb (bitAnd m (2 ^ p)) 0) ≡ bit m p

@@ -38,10 +38,13 @@ first-cong f g (suc n) h =
     let l = first-cong (λ p. f (suc p)) (λ p. g (suc p)) n (λ p k. h (suc p) (omega arith)) in
     rw (e, l)
 
--- ---- the bit of a pCPU that a word has
+-- ---- the bit of a pCPU that a word has, and none from 64 up
 
 pub pcpu-bit-is : (p : ℕ) → p < 64 → pcpuBit p ≡ 2 ^ p
 pcpu-bit-is p h = rw (lt-ltb p 64 h)
+
+pub pcpu-bit-past : (p : ℕ) → 64 ≤ p → pcpuBit p ≡ 0
+pcpu-bit-past p h = rw (le-ltb p 64 h)
 
 -- ---- no mask admits a pCPU from 64 up
 

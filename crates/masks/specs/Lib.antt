@@ -1,3 +1,4 @@
 pub mod Masks
 pub mod Laws
 pub mod Sets
+pub mod Table

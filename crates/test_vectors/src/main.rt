@@ -158,6 +158,17 @@ fn orders_of_services() {
     ranks(ZERO, 0, ZERO, u32::MAX, false);
 }
 
+// Each pCPU's bit is twice the one before it; from 64 up there is none.
+fn bits_of_pcpus() {
+    let mut want: u64 = 1;
+    let mut pcpu: u32 = 0;
+    while pcpu <= 64 {
+        check::expect(masks::pcpu_bit(pcpu) == want);
+        want = std::num::wrapping_add_u64(want, want);
+        pcpu += 1;
+    }
+}
+
 fn sets_of_pcpus() {
     fills(0, 0);
     fills(1, 1);
@@ -183,9 +194,10 @@ fn main() {
     sums_and_differences();
     products_and_quotients();
     orders_of_services();
+    bits_of_pcpus();
     sets_of_pcpus();
     io::write_all(
         libc::STDOUT_FILENO,
-        b"58 boundary vectors of masks and service: all hold\n",
+        b"123 boundary vectors of masks and service: all hold\n",
     );
 }
