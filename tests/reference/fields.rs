@@ -1,7 +1,7 @@
 //! The fields of a host as they stand in the port's tables, which are of one size whatever the counts: one of them
 //! written with no test, by a record of kind 13 to 28, and what is kept at a slot. Upstream's tables end at its counts:
 //! what stands past them is kept here, and a count above its size is held at it, as reads hold it.
-use crate::policy::Scheduler;
+use crate::policies::{Account, Policy, DEFAULT_WEIGHT};
 use crate::sched::{RunState, System, Violation};
 use crate::script::{Host, Record, SIZES};
 
@@ -28,9 +28,7 @@ const SLOTS: usize = DOMAINS as usize * VCPUS as usize;
 
 /// State, run time, clock of the dispatch, mask.
 type VcpuRecord = (RunState, u64, u64, u64);
-/// Weight, offset, snapshot.
-type Account = (u32, u128, bool);
-const PLAIN: Account = (1, 0, false);
+const PLAIN: Account = (DEFAULT_WEIGHT, 0, false);
 
 /// What stands in a host's tables. What is within the counts changes with the host and is read there.
 #[derive(Clone)]
@@ -125,7 +123,7 @@ pub fn write(host: &mut Host, r: Record) {
         _ => tables.write(r),
     }
     let system = System::of(&rows(&counts, &tables.vcpus), &tables.pcpus[..counts[2].min(SIZES[2]) as usize]);
-    let policy = Scheduler::of(&rows(&policy_counts, &tables.accounts), slice, boost);
+    let policy = Policy::of(counts, policy_counts, &rows(&policy_counts, &tables.accounts), slice, boost);
     *host = Host { system, policy, counts, policy_counts, tables: Some(Box::new(tables)) };
 }
 

@@ -24,6 +24,8 @@ mod fields;
 mod generate;
 mod lines;
 mod outcomes;
+mod outside_policy;
+mod policies;
 mod policy;
 mod program;
 mod reads;

@@ -1,6 +1,7 @@
 //! What a read, or a kind that only `examine` has, can answer, and how often each was seen.
 use crate::fields::Verdict;
 use crate::examine::{Reads, BUILD_APART, OFFLINE_ALL};
+use crate::policies::DEFAULT_WEIGHT;
 use crate::policy::Decision;
 use crate::sched::RunState;
 use crate::script::{Host, Record, Told, BAD_SCRIPT, DONE, TOO_LARGE};
@@ -45,7 +46,9 @@ pub const READS: &[Outcome] = &[
     ("mask admits the pCPU", Read(|read, _| read.permits)),
     ("mask does not", Read(|read, seen| barred(read) && seen.pcpu() < 64)),
     ("mask does not, pCPU id of 64 or more", Read(|read, seen| barred(read) && seen.pcpu() >= 64)),
-    ("weight above the default", Read(|read, _| read.weight > 1)),
+    ("weight above the default", Read(|read, _| read.weight > DEFAULT_WEIGHT)),
+    ("weight below the default", Read(|read, _| read.weight < DEFAULT_WEIGHT)),
+    ("weight outside the policy's shape", Read(|read, seen| !seen.has_account() && read.weight == DEFAULT_WEIGHT)),
     ("no vCPUs in a bad domain", Read(|read, seen| seen.bad_domain(read) && read.vcpus == 0)),
     ("full mask of 64 pCPUs", Read(|read, _| read.full_mask == u64::MAX)),
     ("full mask of none", Read(|read, _| read.full_mask == 0)),
@@ -75,6 +78,9 @@ pub const READS: &[Outcome] = &[
     ("policy of another shape", Read(|_, seen| seen.apart.is_some())),
     ("advance moves under one", Read(|_, seen| seen.apart.is_some() && seen.told.moves > 0)),
     ("vCPU outside its policy's shape runs", Read(|read, seen| seen.outside() && runs(read))),
+    ("policy that does not cover its host", Read(|_, seen| seen.short())),
+    ("next is Run under one", Read(|read, seen| seen.short() && matches!(read.next, Some(Decision::Run { .. })))),
+    ("next is Preempt under one", Read(|read, seen| seen.short() && matches!(read.next, Some(Decision::Preempt { .. })))),
     ("policy's shape too large", Read(|_, seen| seen.is(BUILD_APART, TOO_LARGE))),
 ];
 
@@ -95,6 +101,17 @@ impl Seen<'_> {
 
     fn all_off(&self) -> bool {
         self.is(OFFLINE_ALL, DONE)
+    }
+
+    /// Whether the policy has an account of the record's vCPU.
+    pub fn has_account(&self) -> bool {
+        let Record { domain, vcpu, .. } = self.record;
+        self.host.is_some_and(|host| host.policy.kept(domain, vcpu).is_some())
+    }
+
+    /// Whether some vCPU of the host is outside its policy's shape.
+    pub fn short(&self) -> bool {
+        self.host.is_some_and(|host| !host.policy.covers_host())
     }
 
     pub fn pcpu(&self) -> usize {

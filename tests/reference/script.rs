@@ -1,7 +1,7 @@
 //! Records, and upstream's host behind them. Only the answers 7 and 9 are added here; all else is upstream's. Its one
 //! WrongState is told by the number of the state that its own `state_of` gives just before the call.
 use crate::fields::Tables;
-use crate::policy::Scheduler;
+use crate::policies::Policy;
 use crate::sched::{RunState, SchedError, System};
 use std::panic::{catch_unwind, resume_unwind, AssertUnwindSafe};
 
@@ -86,7 +86,7 @@ pub struct Told {
 
 pub struct Host {
     pub system: System,
-    pub policy: Scheduler,
+    pub policy: Policy,
     /// The system's counts and the policy's, which are above the sizes only if they were written with no test.
     pub counts: [u64; 3],
     pub policy_counts: [u64; 2],
@@ -98,9 +98,8 @@ impl Host {
     /// Of counts within the sizes.
     pub fn new(counts: [u64; 3], policy_counts: [u64; 2], slice: u64) -> Host {
         let [domains, vcpus, pcpus] = counts.map(|n| n as usize);
-        let [policy_domains, policy_vcpus] = policy_counts.map(|n| n as usize);
         let system = System::new(domains, vcpus, pcpus);
-        let policy = Scheduler::new(policy_domains, policy_vcpus, slice);
+        let policy = Policy::new(counts, policy_counts, slice);
         Host { system, policy, counts, policy_counts, tables: None }
     }
 

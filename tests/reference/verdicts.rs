@@ -4,6 +4,7 @@ use crate::examine::{wants_sound, Reads, BUILD_APART, OFFLINE_ALL};
 use crate::fields::{names_field, oversize, Verdict, SNAPSHOT, STATE};
 use crate::generate::{damaged, Rng};
 use crate::outcomes::{Outcome, Seen, When::Read};
+use crate::policies::DEFAULT_WEIGHT;
 use crate::reads::{Records, Sort};
 use crate::sched::{RunState, Violation};
 use crate::script::{Host, Record, BAD_SCRIPT, DONE, SIZES, TOO_LARGE, UNSOUND};
@@ -110,13 +111,14 @@ const OUTCOMES: &[Outcome] = &[
     ("run times written: usage above 2^64", Read(|read, seen| written(seen) && read.used >> 64 > 0)),
     ("usage after a dispatch, on a damaged system", Read(|read, seen| !read.sound && seen.reads(Greater))),
     // the policy
-    ("a stored weight of 0 reads as 1", Read(|read, seen| covered(seen) && read.kept[0] == 0 && read.weight == 1)),
-    ("a weight under a policy of more than 16 domains", Read(|read, seen| policy_over(seen)[0] && read.weight > 1)),
-    ("a weight under a policy of more than 8 vCPUs", Read(|read, seen| policy_over(seen)[1] && read.weight > 1)),
+    ("a stored weight of 0 reads as 1", Read(|read, seen| seen.has_account() && read.kept[0] == 0 && read.weight == 1)),
+    ("a weight under a policy of more than 16 domains", Read(|read, seen| policy_over(seen)[0] && set(read))),
+    ("a weight under a policy of more than 8 vCPUs", Read(|read, seen| policy_over(seen)[1] && set(read))),
     (
-        "a weight past the policy's counts reads as 1",
-        Read(|read, seen| !covered(seen) && read.kept[0] > 1 && read.weight == 1),
+        "a weight past the policy's counts reads as 256",
+        Read(|read, seen| !seen.has_account() && read.kept[0] != u64::from(DEFAULT_WEIGHT) && !set(read)),
     ),
+    ("sound under a policy that does not cover it", Read(|read, seen| read.sound && seen.short())),
     ("an offset above 2^64", Read(|read, _| read.kept[3] + read.kept[4] > 0)),
     ("an offset above 2^127", Read(|read, _| read.kept[4] >> 31 > 0)),
     ("an offset though boost is off", Read(|read, _| read.kept[6] == 0 && read.kept[1..5] != [0; 4])),
@@ -143,13 +145,12 @@ fn over(seen: &Seen) -> [bool; 3] {
     seen.host.map_or([false; 3], oversize)
 }
 
-fn policy_over(seen: &Seen) -> [bool; 2] {
-    seen.host.map_or([false; 2], |host| [0, 1].map(|i| host.policy_counts[i] > SIZES[i]))
+fn set(read: &Reads) -> bool {
+    read.weight != DEFAULT_WEIGHT
 }
 
-fn covered(seen: &Seen) -> bool {
-    let Record { domain, vcpu, .. } = seen.record;
-    seen.host.is_some_and(|host| host.policy.kept(domain, vcpu).is_some())
+fn policy_over(seen: &Seen) -> [bool; 2] {
+    seen.host.map_or([false; 2], |host| [0, 1].map(|i| host.policy_counts[i] > SIZES[i]))
 }
 
 fn ghost_pcpu(read: &Reads) -> bool {

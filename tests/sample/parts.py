@@ -4,7 +4,8 @@ import subprocess
 
 ROOT = pathlib.Path(__file__).resolve().parent.parent.parent
 # the first opens with a call before any build, the last closes with a record that is cut off
-BEFORE = [f"examples/{name}.txt" for name in ("refusals", "first", "payment-run", "month-end")] + ["tests/sample/situations.txt"]
+EXAMPLES = ["refusals", "first", "payment-run", "small-plan", "month-end"]
+BEFORE = [f"examples/{name}.txt" for name in EXAMPLES] + ["tests/sample/situations.txt"]
 LAST = "tests/sample/edges.txt"
 # not stored: upstream's sum overflows in it
 HELD = "tests/sample/held.txt"

@@ -62,7 +62,7 @@ abbrev vcpu : RunState → ℕ → VirtualCpu
 vcpu st since = record { state = st; runtime = 0; «dispatched_at» = since; affinity = 1 }
 
 abbrev account : Bool → Account
-account was = record { weight = 1; offset = noOffset; «was_schedulable» = was }
+account was = record { weight = 256; offset = noOffset; «was_schedulable» = was }
 
 pub record Situation : Type 0 where
   pub system : System
@@ -110,7 +110,7 @@ table =
     ∷ rows (advanced (running true) 109) (0 ∷ 0 ∷ 0 ∷ 0 ∷ 1 ∷ 1 ∷ 0 ∷ [])
     -- for 10, the slice: it comes off with a run time of 10, and 0/1, which has had nothing, goes on
     ∷ rows (advanced (running true) 110) (2 ∷ off 0 0 0 ++ onto 0 1 0 ++ (0 ∷ 1 ∷ 10 ∷ 1 ∷ 1 ∷ 0 ∷ []))
-    -- for 50, but 0/1 joins the pool now: it is lifted to the floor, 50 over 1, and does not beat 0/0
+    -- for 50, but 0/1 joins the pool now: it is lifted to the floor, 50 over 256, and does not beat 0/0
     ∷ rows (advanced (running false) 150) (0 ∷ 0 ∷ 0 ∷ 0 ∷ 1 ∷ 1 ∷ 50 ∷ [])
     -- with slice 0 whoever went on may come off again: 0/3 yields to 0/0, 0/2 to 0/1, 0/0 to 0/2; that is more than 2 × pCPUs + 1 moves
     ∷ rows (moved ((advance (crossed .system) (crossed .policy) 0) .moves))

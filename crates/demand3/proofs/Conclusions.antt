@@ -1,6 +1,6 @@
 -- From what is kept along a list to what demand 3 says of it. Assumes nothing.
 use Prim.Native.Nat.{ℕ, _+_, _-_, _*_, _/_, _%_, _^_, _≤_, _<_}
-use mathlib.Core.Bool.{Bool, true, false, cond}
+use mathlib.Core.Bool.{true}
 use mathlib.Core.Path.{_≡_, refl, sym, _∙_, ap, ap₂, subst}
 use mathlib.Core.List.{List, [], _∷_, _++_}
 use native.Mathlib.Omega.{arith}
@@ -17,14 +17,14 @@ use Rattle.system.specs.Records.{flight, inFlight}
 use Rattle.system.specs.Shape.{offlineVcpu, fresh}
 use Rattle.system.specs.Shape as shape
 use Rattle.system.specs.Reads.{vcpuAt, stateAt, runtimeAt}
-use Rattle.system.specs.Slots.{pcpus, slot, Present, slot-below}
+use Rattle.system.specs.Slots.{pcpus, Present, slot-below}
 use Rattle.system.specs.States.{schedulable}
 use Rattle.scan.specs.Scan.{nobody}
 use Rattle.policy.specs.declared.Account.{Account}
-use Rattle.policy.specs.Accounts.{blankAccount, plain, covers, accountAt, accountOf, usedWeight, freshPolicy}
+use Rattle.policy.specs.Accounts.{defaultWeight, freshPolicy}
 use Rattle.policy.specs.Accounting.{accounted}
 use Rattle.policy.specs.Standing.{weightAt, serviceAt}
-use Rattle.policy.proofs.Laws.{covers-below}
+use Rattle.policy.proofs.Laws.{new-account, new-tabled, defaults}
 use Rattle.sched.proofs.Laws.{off-nr, fresh-tables, fresh-vcpu, fresh-sound}
 use Rattle.demand3.proofs.ExactRanking.{rawService, service-raw}
 use Rattle.demand3.proofs.Lag.{Lag, raw-waiting}
@@ -72,26 +72,14 @@ module _ (d v p e u q : ℕ) (hd : d ≤ 16) (hv : v ≤ 8) (hp : p ≤ 64) wher
             };
       }
 
-  policy-at : (d v : ℕ) → accountOf (freshPolicy e u q) d v ≡ plain
-  unfolding accountOf accountAt freshPolicy
-  policy-at d v = go (covers (freshPolicy e u q) d v) refl
-    where
-      go : (b : Bool) → covers (freshPolicy e u q) d v ≡ b → cond b (getD (replicate 128 plain) (slot d v) blankAccount) plain ≡ plain
-      go true c =
-          let x = covers-below (freshPolicy e u q) d v c in
-          let m = x .0 in
-          let n = x .1 in
-          getD-replicate 128 (slot d v) plain blankAccount (omega arith)
-      go false c = refl
-
-  pub fresh-weighs : Weighs e u (λ d v. 1) (freshPolicy e u q)
+  pub fresh-weighs : Weighs e u (λ d v. defaultWeight) (freshPolicy e u q)
   unfolding freshPolicy
   fresh-weighs =
       record {
-        tabled = record { accounts = length-replicate 128 plain };
+        tabled = new-tabled e u q;
         domains = refl;
         vcpus = refl;
-        covered = λ d v c. ap usedWeight (policy-at d v);
+        covered = λ d v c. defaults .new-weight e u q d v;
       }
 
   time-zero : (j : ℕ) → runtimeAt (fresh d v p) j ≡ 0
@@ -112,12 +100,12 @@ module _ (d v p e u q : ℕ) (hd : d ≤ 16) (hv : v ≤ 8) (hp : p ≤ 64) wher
             };
         plain =
             record {
-              offsets = λ i. ap (λ (a : Account). value (a .offset)) (policy-at (i / 8) (i % 8));
-              weights = λ i. omega (arith, ap usedWeight (policy-at (i / 8) (i % 8)));
+              offsets = λ i. ap (λ (a : Account). value (a .offset)) (new-account e u q (i / 8) (i % 8));
+              weights = λ i. omega (arith, defaults .new-weight e u q (i / 8) (i % 8));
             };
         tabled = fresh-weighs .tabled;
         words = λ j. omega (arith, time-zero j);
-        unseen = λ i. ap (λ (a : Account). a .«was_schedulable») (policy-at (i / 8) (i % 8));
+        unseen = λ i. ap (λ (a : Account). a .«was_schedulable») (new-account e u q (i / 8) (i % 8));
       }
 
 -- ---- at every point

@@ -4,3 +4,5 @@
 pub use Rattle.demand3.proofs.Demand3.{demand-3}
 -- where clocks do not run back no run time is cut
 pub use Rattle.demand3.proofs.Uncut.{uncut}
+-- whoever no weight was set for ranks as one set to 256
+pub use Rattle.demand3.proofs.Unset.{unset-ranks}

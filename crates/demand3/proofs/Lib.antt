@@ -19,6 +19,7 @@ mod PoolLists
 mod SetWeight
 mod Tracked
 mod Uncut
+mod Unset
 mod WeightCalls
 mod ExactRanking
 mod Lag

@@ -1,18 +1,13 @@
 -- The weights looked up after a weight call, by whether it names their vCPU. Assumes nothing.
 use Prim.Native.Nat.{ℕ, max}
-use mathlib.Core.Bool.{true, false, cond, _&&_, and-false}
+use mathlib.Core.Bool.{true, cond, _&&_, and-false}
 use mathlib.Core.Path.{_≡_, sym}
 use native.Mathlib.Decide.{ℕ-discrete}
 use lib.Dec.{eqb}
 use borrow.Author.Tests.{eq-eqb, ne-eqb}
 use Rattle.policy.specs.declared.Scheduler.{Scheduler}
-use Rattle.policy.specs.Accounts.{Tabled, covers, accountOf, weightOf, setWeight}
+use Rattle.policy.specs.Accounts.{Tabled, covers, weightOf, setWeight}
 use Rattle.policy.proofs.Laws.{set-weighed}
-
--- outside the shape a weight is 1
-pub uncovered-weight : (π : Scheduler) (d v : ℕ) → covers π d v ≡ false → weightOf π d v ≡ 1
-unfolding accountOf
-uncovered-weight π d v e = rw e
 
 -- the new weight where these are the ids of the call, else the old one
 pub set-weight : (π : Scheduler) → Tabled π → (d v x d′ v′ : ℕ) → covers π d′ v′ ≡ true

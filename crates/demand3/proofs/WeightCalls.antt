@@ -1,40 +1,42 @@
 -- Along any list of calls the weights looked up are those that its weight calls leave. Assumes nothing.
-use Prim.Native.Nat.{ℕ, _/_, _%_, max, min}
+use Prim.Native.Nat.{ℕ, _/_, _%_, max}
 use mathlib.Core.Bool.{Bool, true, false, cond, _&&_}
 use mathlib.Core.Path.{_≡_, refl, sym, _∙_, ap, ap₂, subst, subst₂}
 use mathlib.Core.List.{List, [], _∷_}
 use native.Mathlib.Omega.{arith}
-use lib.Dec.{eqb, ltb}
+use lib.Dec.{eqb}
 use Rattle.system.specs.declared.System.{System}
 use Rattle.system.specs.Slots.{slot}
 use Rattle.policy.specs.declared.Scheduler.{Scheduler}
-use Rattle.policy.specs.Accounts.{covers, weightOf, setWeight, setWakeBoost}
+use Rattle.policy.specs.Accounts.{defaultWeight, inShape, covers, weightOf, setWeight, setWakeBoost}
 use Rattle.policy.specs.Accounting.{accounted}
-use Rattle.policy.proofs.Laws.{Tabled, covers-below, set-weighed, set-weight-tabled, cleared, cleared-tabled, accounted-renewal}
+use Rattle.policy.proofs.Laws.{Tabled, covers-below, defaults, set-weighed, set-weight-tabled, cleared, cleared-tabled, accounted-renewal}
 use Rattle.host.specs.declared.Host.{Host}
 use Rattle.host.specs.declared.Call.{Call}
 use Rattle.host.specs.Step.{step, hostAfter}
 use Rattle.demand3.specs.Book.{Book, Shape}
-use Rattle.demand3.specs.Weights.{weighable, weightBy, weightThrough}
+use Rattle.demand3.specs.Weights.{weightBy, weightThrough}
 use Rattle.demand3.proofs.EveryCall.{Kept, step-goes, advance-traced}
-use Rattle.demand3.proofs.SetWeight.{uncovered-weight, set-weight}
+use Rattle.demand3.proofs.SetWeight.{set-weight}
 
--- a policy of e domains of u vCPUs whose weights are w in its shape, and 1 outside it
+-- a policy of e domains of u vCPUs whose weights are w in its shape
 pub record Weighs (e u : ℕ) (w : ℕ → ℕ → ℕ) (π : Scheduler) : Type 0 where
   pub tabled : Tabled π
   pub domains : π .«domain_count» ≡ e
   pub vcpus : π .«vcpus_per_domain» ≡ u
   pub covered : (d v : ℕ) → covers π d v ≡ true → weightOf π d v ≡ w d v
 
-pub weighs-all : {e u : ℕ} {w : ℕ → ℕ → ℕ} {π : Scheduler} → Weighs e u w π → (d v : ℕ) → weightOf π d v ≡ cond (weighable e u d v) (w d v) 1
+-- so that all are known: outside the shape it is the default
+pub weighs-all : {e u : ℕ} {w : ℕ → ℕ → ℕ} {π : Scheduler} → Weighs e u w π → (d v : ℕ)
+    → weightOf π d v ≡ cond (inShape e u d v) (w d v) defaultWeight
 weighs-all {e} {u} {w} {π} W d v = go (covers π d v) refl
   where
-    same : covers π d v ≡ weighable e u d v
-    same = ap₂ (λ (m n : ℕ). ltb d (min m 16) && ltb v (min n 8)) (W .domains) (W .vcpus)
+    same : covers π d v ≡ inShape e u d v
+    same = ap₂ (λ (m n : ℕ). inShape m n d v) (W .domains) (W .vcpus)
 
-    go : (b : Bool) → covers π d v ≡ b → weightOf π d v ≡ cond (weighable e u d v) (w d v) 1
+    go : (b : Bool) → covers π d v ≡ b → weightOf π d v ≡ cond (inShape e u d v) (w d v) defaultWeight
     go true c = rw (sym same ∙ c) (W .covered d v c)
-    go false c = rw (sym same ∙ c) (uncovered-weight π d v c)
+    go false c = rw (sym same ∙ c) (defaults .outside-weight π d v c)
 
 -- a policy of the same shape, with weights w′
 reweighed : {e u : ℕ} {w : ℕ → ℕ → ℕ} {π ρ : Scheduler} (w′ : ℕ → ℕ → ℕ) → Weighs e u w π → Tabled ρ
@@ -45,7 +47,7 @@ reweighed w′ W t m n f =
       tabled = t;
       domains = m ∙ W .domains;
       vcpus = n ∙ W .vcpus;
-      covered = λ d v c. f d v (sym (ap₂ (λ (x y : ℕ). ltb d (min x 16) && ltb v (min y 8)) m n) ∙ c);
+      covered = λ d v c. f d v (sym (ap₂ (λ (x y : ℕ). inShape x y d v) m n) ∙ c);
     }
 
 -- ---- the calls of the policy

@@ -8,5 +8,6 @@ pub mod Holding
 pub mod Lists
 pub mod Reads
 pub mod Uncut
+pub mod Unset
 pub mod WeightRows
 pub mod Weights

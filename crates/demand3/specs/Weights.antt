@@ -1,13 +1,10 @@
 -- The weight of each vCPU as the weight calls of a list leave it, on a policy of e domains of u vCPUs. It reads no policy.
-use Prim.Native.Nat.{ℕ, min, max}
-use mathlib.Core.Bool.{Bool, cond, _&&_}
+use Prim.Native.Nat.{ℕ, max}
+use mathlib.Core.Bool.{cond, _&&_}
 use mathlib.Core.List.{List, [], _∷_}
-use lib.Dec.{ltb, eqb}
+use lib.Dec.{eqb}
+use Rattle.policy.specs.Accounts.{defaultWeight, inShape}
 use Rattle.host.specs.declared.Call.{Call}
-
--- d/v is in the policy's shape, and within the sizes
-abbrev pub weighable : ℕ → ℕ → ℕ → ℕ → Bool
-weighable e u d v = ltb d (min e 16) && ltb v (min u 8)
 
 -- what a call makes of the weight w of d/v: a weight call of these very ids replaces it, with 0 set as 1
 abbrev pub weightBy : ℕ → ℕ → ℕ → Call → ℕ
@@ -28,6 +25,6 @@ unfoldable pub weightThrough : ℕ → ℕ → ℕ → List Call → ℕ
 weightThrough d v w [] = w
 weightThrough d v w (c ∷ cs) = weightThrough d v (weightBy d v w c) cs
 
--- the weight looked up for d/v after a list: 1 until it is set, and 1 for ids that are not weighable
+-- the weight looked up for d/v after a list: the default until one is set, and for ids outside the shape
 abbrev pub weightAfter : ℕ → ℕ → List Call → ℕ → ℕ → ℕ
-weightAfter e u cs d v = cond (weighable e u d v) (weightThrough d v 1 cs) 1
+weightAfter e u cs d v = cond (inShape e u d v) (weightThrough d v defaultWeight cs) defaultWeight

@@ -48,21 +48,21 @@ runs cs = host (Call.Admit 0 1 ∷ Call.Run 0 1 1 5 ∷ cs)
 
 abbrev pub table : List Row
 table =
-    rows (read (waits [])) (0 ∷ 1 ∷ 0 ∷ 3 ∷ 1 ∷ 1 ∷ [])
-    ∷ rows (read (runs [])) (0 ∷ 4 ∷ 0 ∷ 3 ∷ 1 ∷ 1 ∷ [])
+    rows (read (waits [])) (0 ∷ 1 ∷ 0 ∷ 3 ∷ 256 ∷ 1 ∷ [])
+    ∷ rows (read (runs [])) (0 ∷ 4 ∷ 0 ∷ 3 ∷ 256 ∷ 1 ∷ [])
     -- off its pCPU at 12 it has run for 7
-    ∷ rows (read (runs (Call.Preempt 0 1 12 ∷ []))) (0 ∷ 1 ∷ 7 ∷ 3 ∷ 1 ∷ 1 ∷ [])
-    ∷ rows (read (runs (Call.Block 0 1 12 ∷ []))) (0 ∷ 2 ∷ 7 ∷ 3 ∷ 1 ∷ 1 ∷ [])
-    ∷ rows (read (runs (Call.Block 0 1 12 ∷ Call.Wake 0 1 ∷ []))) (0 ∷ 1 ∷ 7 ∷ 3 ∷ 1 ∷ 1 ∷ [])
+    ∷ rows (read (runs (Call.Preempt 0 1 12 ∷ []))) (0 ∷ 1 ∷ 7 ∷ 3 ∷ 256 ∷ 1 ∷ [])
+    ∷ rows (read (runs (Call.Block 0 1 12 ∷ []))) (0 ∷ 2 ∷ 7 ∷ 3 ∷ 256 ∷ 1 ∷ [])
+    ∷ rows (read (runs (Call.Block 0 1 12 ∷ Call.Wake 0 1 ∷ []))) (0 ∷ 1 ∷ 7 ∷ 3 ∷ 256 ∷ 1 ∷ [])
     -- offline fills the mask again, of one vCPU or of a whole domain
-    ∷ rows (read (runs (Call.SetAffinity 0 1 2 ∷ []))) (0 ∷ 4 ∷ 0 ∷ 2 ∷ 1 ∷ 1 ∷ [])
-    ∷ rows (read (runs (Call.SetAffinity 0 1 2 ∷ Call.Admit 0 0 ∷ Call.Offline 0 1 12 ∷ []))) (1 ∷ 0 ∷ 7 ∷ 3 ∷ 1 ∷ 1 ∷ [])
-    ∷ rows (read (runs (Call.SetAffinity 0 1 2 ∷ Call.Admit 0 0 ∷ Call.OfflineAll 0 12 ∷ []))) (0 ∷ 0 ∷ 7 ∷ 3 ∷ 1 ∷ 1 ∷ [])
+    ∷ rows (read (runs (Call.SetAffinity 0 1 2 ∷ []))) (0 ∷ 4 ∷ 0 ∷ 2 ∷ 256 ∷ 1 ∷ [])
+    ∷ rows (read (runs (Call.SetAffinity 0 1 2 ∷ Call.Admit 0 0 ∷ Call.Offline 0 1 12 ∷ []))) (1 ∷ 0 ∷ 7 ∷ 3 ∷ 256 ∷ 1 ∷ [])
+    ∷ rows (read (runs (Call.SetAffinity 0 1 2 ∷ Call.Admit 0 0 ∷ Call.OfflineAll 0 12 ∷ []))) (0 ∷ 0 ∷ 7 ∷ 3 ∷ 256 ∷ 1 ∷ [])
     ∷ rows (read (host (Call.SetWeight 0 1 5 ∷ []))) (0 ∷ 0 ∷ 0 ∷ 3 ∷ 5 ∷ 1 ∷ [])
-    ∷ rows (read (host (Call.SetWakeBoost false ∷ []))) (0 ∷ 0 ∷ 0 ∷ 3 ∷ 1 ∷ 0 ∷ [])
-    ∷ rows (read (host (Call.SetWakeBoost false ∷ Call.SetWakeBoost true ∷ []))) (0 ∷ 0 ∷ 0 ∷ 3 ∷ 1 ∷ 1 ∷ [])
+    ∷ rows (read (host (Call.SetWakeBoost false ∷ []))) (0 ∷ 0 ∷ 0 ∷ 3 ∷ 256 ∷ 0 ∷ [])
+    ∷ rows (read (host (Call.SetWakeBoost false ∷ Call.SetWakeBoost true ∷ []))) (0 ∷ 0 ∷ 0 ∷ 3 ∷ 256 ∷ 1 ∷ [])
     -- each goes onto the lowest-numbered idle pCPU, 0/0 first: two moves are counted
-    ∷ rows (read (waits (Call.Admit 0 0 ∷ Call.Advance 5 ∷ []))) (3 ∷ 4 ∷ 0 ∷ 3 ∷ 1 ∷ 1 ∷ [])
+    ∷ rows (read (waits (Call.Admit 0 0 ∷ Call.Advance 5 ∷ []))) (3 ∷ 4 ∷ 0 ∷ 3 ∷ 256 ∷ 1 ∷ [])
     ∷ row ((stepCounted (step (waits (Call.Admit 0 0 ∷ [])) (Call.Advance 5))) .count) 2
     -- a policy of the system's shape; a shape above the sizes is told 7
     ∷ rows (built (builtHost 2 3 4 10)) (0 ∷ 2 ∷ 3 ∷ 4 ∷ 2 ∷ 3 ∷ 10 ∷ [])

@@ -6,6 +6,8 @@ pub use Rattle.policy.specs.Accounts.{Tabled}
 pub use Rattle.policy.proofs.AccountPuts.{covers-below, put-same}
 -- what setting a weight, and clearing the offsets, leave
 pub use Rattle.policy.proofs.SettingLaws.{set-weighed, set-weight-either, set-weight-tabled, cleared, cleared-tabled}
+-- what a vCPU has that nothing was set for, and how it ranks
+pub use Rattle.policy.proofs.DefaultLaws.{ranks-at, new-account, new-tabled, defaults}
 -- what accounting leaves
 pub use Rattle.policy.proofs.RenewalLaws.{renew-same, accounted-renewal}
 -- what the code reads at a slot is the account there

@@ -7,4 +7,5 @@ mod FloorLoop
 mod RenewalLoop
 mod AccountPuts
 mod SettingLaws
+mod DefaultLaws
 mod RenewalLaws

@@ -15,7 +15,7 @@ use Rattle.policy.specs.declared.Adjusted.{Adjusted}
 
 -- the weight of a vCPU that none was set for, and of one outside the shape
 abbrev pub defaultWeight : ℕ
-defaultWeight = 1
+defaultWeight = 256
 
 -- the least weight that is used
 abbrev pub leastWeight : ℕ

@@ -6,5 +6,6 @@ pub mod Rows
 pub mod Exact
 pub mod FloorLaws
 pub mod Settings
+pub mod Defaults
 pub mod Renewal
 pub mod Internal

@@ -14,7 +14,7 @@ use Rattle.system.specs.Writes.{putVcpu}
 use Rattle.policy.specs.declared.Account.{Account}
 use Rattle.policy.specs.declared.Scheduler.{Scheduler}
 use Rattle.policy.specs.Accounts.{weightOf, offsetOf, wasSchedulable, putAccount, freshPolicy, setWakeBoost}
-use Rattle.policy.specs.Standing.{serviceAt}
+use Rattle.policy.specs.Standing.{serviceAt, deserves}
 use Rattle.policy.specs.Accounting.{floor, accounted}
 
 -- ---- hosts: 0/0 and 0/1 on two pCPUs, the clock at 100
@@ -75,7 +75,11 @@ slotOf (at i) = i ∷ []
 
 -- the service of 0/0
 abbrev pub service : VirtualCpu → Account → ℕ → ℕ
-service v a now = serviceAt (pair v (waits 0)) (policy a (pooled 1 0)) now 0
+service v a now = serviceAt (pair v (waits 0)) (policy a (pooled 256 0)) now 0
+
+-- whether 0/0 is more deserving than 0/1, and 0/1 than 0/0
+abbrev pub first : System → Scheduler → List ℕ
+first s π = test (deserves s π 100 0 1) ∷ test (deserves s π 100 1 0) ∷ []
 
 -- who sets the floor, by slot
 abbrev pub sets : System → Scheduler → List ℕ

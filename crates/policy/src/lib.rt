@@ -25,8 +25,8 @@ pub type Weight = u32;
 
 /// The least weight that is used.
 pub const MIN_WEIGHT: Weight = 1;
-/// The weight of a vCPU that none was set for.
-pub const DEFAULT_WEIGHT: Weight = 1;
+/// The weight of a vCPU that none was set for, as in Xen's credit scheduler.
+pub const DEFAULT_WEIGHT: Weight = 256;
 
 /// What the policy keeps of one vCPU.
 pub struct Account {

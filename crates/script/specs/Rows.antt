@@ -84,9 +84,9 @@ four =
 abbrev pub hosts : List Row
 hosts =
     rows (hostText ((scriptAfter begun four 9) .host))
-    (ascii " 0 0 0 64 0 0 3 1\n 0 1 1 64 0 0 2 7\n 0 2 2 1 100 0 3 1\n 0 3 3 64 0 5 3 1\n p 1 0 2\n")
+    (ascii " 0 0 0 64 0 0 3 256\n 0 1 1 64 0 0 2 7\n 0 2 2 1 100 0 3 256\n 0 3 3 64 0 5 3 256\n p 1 0 2\n")
     -- after each record that leaves a host, and not before
-    ∷ rows (traced (all (admit ∷ build 2 1 1 ∷ []))) (ascii "1 9 0\n2 0 0\n 0 0 0 64 0 0 1 1\n 1 0 0 64 0 0 1 1\n")
+    ∷ rows (traced (all (admit ∷ build 2 1 1 ∷ []))) (ascii "1 9 0\n2 0 0\n 0 0 0 64 0 0 1 256\n 1 0 0 64 0 0 1 256\n")
     ∷ []
 
 pub hosts-due : AllDue hosts

@@ -31,7 +31,7 @@ use Rattle.demand3.specs.Weights.{weightThrough}
 use Rattle.demand3.specs.Demand3.{Demand-3}
 use Rattle.demand3.proofs.Laws.{demand-3}
 
--- two vCPUs on one pCPU, slice 10: 0/0 at weight 2 runs from 0 to 10 and waits, 0/1 runs from 10
+-- two vCPUs on one pCPU, slice 10: 0/0 at weight 512 runs from 0 to 10 and waits, 0/1 runs from 10
 abbrev k : Shape
 k = record { domains = 1; vcpus = 2; pcpus = 1 }
 
@@ -39,7 +39,7 @@ abbrev h : Host
 h = freshHost 1 2 1 1 2 10
 
 abbrev start : List Call
-start = Call.SetWeight 0 0 2 ∷ Call.Admit 0 0 ∷ Call.Admit 0 1 ∷ Call.Advance 0 ∷ []
+start = Call.SetWeight 0 0 512 ∷ Call.Admit 0 0 ∷ Call.Admit 0 1 ∷ Call.Advance 0 ∷ []
 
 abbrev cs : List Call
 cs = start ++ (Call.Advance 10 ∷ Call.Run 0 0 0 10 ∷ [])
@@ -78,7 +78,7 @@ busy = holds .told ran [] (Call.Run 0 0 0 10) refl
 pool : PoolList 10 h cs
 unfolding hostAfter
 pool =
-    lists.prepares (lists.weigh 0 0 2) (lists.prepares (lists.admit 0 0) (lists.prepares (lists.admit 0 1)
+    lists.prepares (lists.weigh 0 0 512) (lists.prepares (lists.admit 0 0) (lists.prepares (lists.admit 0 1)
     (lists.starts (lists.advances {t = 0} {n = 10} (omega arith) (omega arith)
     (lists.refused {h = hostAfter h ran} {c = Call.Run 0 0 0 10} (λ e. omega (arith, busy)) lists.done)))))
 
@@ -96,7 +96,7 @@ system-figures =
     )
 
 -- the policy, and the moves of the second advance
-pub policy-figures : (weightOf π 0 0 ≡ 2) × (weightOf π 0 1 ≡ 1) × (π .quantum ≡ 10) × (length moves ≤ 2) × (movesOn 0 moves ≤ 2)
+pub policy-figures : (weightOf π 0 0 ≡ 512) × (weightOf π 0 1 ≡ 256) × (π .quantum ≡ 10) × (length moves ≤ 2) × (movesOn 0 moves ≤ 2)
 unfolding weightThrough
 policy-figures = (
   holds .weights ran rest refl 0 0,
@@ -110,8 +110,8 @@ policy-figures = (
 pub placed-figures : (b 0) .state ≡ Runnable → holder k b 0 ≡ nobody → permits ((b 0) .mask) 0 ≡ true → ⊥
 placed-figures = holds .placed (omega arith) start rest 10 refl 0 0 first (omega arith)
 
--- the lag of 0/0, which waits, behind 0/1 at 20, and the services that it compares: 10 over weight 2 and 10 over weight 1
-pub lag-figures : (bookService b 20 1 * 2 ≤ bookService b 20 0 * 1 + (10 + 10 - 1) * 2) × (offsetOf π 0 0 ≡ 0)
+-- the lag of 0/0, which waits, behind 0/1 at 20, and the services that it compares: 10 over weight 512 and 10 over weight 256
+pub lag-figures : (bookService b 20 1 * 512 ≤ bookService b 20 0 * 256 + (10 + 10 - 1) * 512) × (offsetOf π 0 0 ≡ 0)
     × (serviceAt s π 20 0 ≡ 10) × (serviceAt s π 20 1 ≡ 10)
 unfolding computing bookAfter enter movedAll holder latest weightThrough
 lag-figures = (

@@ -1,12 +1,14 @@
 -- Three pool lists, with their moves and figures: one with a refused call and a departure, one that attains the bound on the lag, one
 -- with a member outside the policy's shape. Assumes nothing.
-use Prim.Native.Nat.{_+_, _-_, _*_, _^_, _≤_}
+use Prim.Native.Nat.{ℕ, _+_, _-_, _*_, _^_, _≤_}
 use mathlib.Core.Path.{_≡_, refl, sym, _∙_}
 use mathlib.Core.List.{List, [], _∷_, _++_, map}
 use native.Mathlib.Omega.{arith}
 use borrow.Author.Needs.{needs}
+use Rattle.system.specs.declared.System.{System}
 use Rattle.moves.specs.declared.Choice.the-variants.{Run, Preempt}
 use Rattle.policy.specs.Standing.{weightAt}
+use Rattle.policy.specs.Defaults.{RanksAt}
 use Rattle.host.specs.declared.Host.{Host}
 use Rattle.host.specs.declared.Call.{Call}
 use Rattle.host.specs.Computing.{computing}
@@ -16,11 +18,12 @@ use Rattle.demand3.specs.Lists.{bookAfter, PoolList, latest, bookService}
 use Rattle.demand3.specs.Lists as lists
 use Rattle.demand3.specs.Agreement.{PresentIn}
 use Rattle.demand3.specs.Weights.{weightThrough}
+use Rattle.demand3.specs.Unset as unset
 use Rattle.demand3.specs.Demand3.{Demand-3}
-use Rattle.demand3.proofs.Laws.{demand-3}
+use Rattle.demand3.proofs.Laws.{demand-3, unset-ranks}
 use Rattle.situations.proofs.Examples.{steps, one-pcpu, built}
 
--- ---- three vCPUs on one pCPU, weights 2, 1 and 1, a policy of another shape, an advance every 10 ticks; a dispatch
+-- ---- three vCPUs on one pCPU, weights 512, which is set, and 256, a policy of another shape, an advance every 10 ticks; a dispatch
 -- is refused, and 0/2 departs
 
 abbrev pub pool-shape : Shape
@@ -30,7 +33,7 @@ abbrev pub pool-host : Host
 pool-host = freshHost 1 3 1 2 4 10
 
 abbrev pub pool-start : List Call
-pool-start = Call.SetWeight 0 0 2 ∷ Call.Admit 0 0 ∷ Call.Admit 0 1 ∷ Call.Admit 0 2 ∷ Call.Advance 0 ∷ Call.Advance 10 ∷ []
+pool-start = Call.SetWeight 0 0 512 ∷ Call.Admit 0 0 ∷ Call.Admit 0 1 ∷ Call.Admit 0 2 ∷ Call.Advance 0 ∷ Call.Advance 10 ∷ []
 
 abbrev pub pool : List Call
 pool = pool-start ++ (Call.Run 0 0 0 7 ∷ Call.Block 0 2 15 ∷ Call.Advance 20 ∷ Call.Advance 30 ∷ Call.Advance 40 ∷ [])
@@ -51,7 +54,7 @@ pool-does = (refl, refl, refl, refl, refl)
 pub pool-list : PoolList 10 pool-host pool
 unfolding hostAfter
 pool-list =
-    lists.prepares (lists.weigh 0 0 2) (lists.prepares (lists.admit 0 0) (lists.prepares (lists.admit 0 1) (lists.prepares (lists.admit 0 2)
+    lists.prepares (lists.weigh 0 0 512) (lists.prepares (lists.admit 0 0) (lists.prepares (lists.admit 0 1) (lists.prepares (lists.admit 0 2)
     (lists.starts (lists.advances {t = 0} {n = 10} (omega arith) (omega arith)
     (lists.refused {h = hostAfter pool-host pool-start} {c = Call.Run 0 0 0 7} (λ e. omega (arith, sym (pool-does .2) ∙ e))
     (lists.departs (lists.block 0 2 15) (lists.advances {t = 10} {n = 20} (omega arith) (omega arith)
@@ -64,7 +67,7 @@ pool-holds =
     (search needs)
 
 -- the lag at 50: 0/1, which runs, is ahead of 0/0, which waits, by no more than the bound
-pub pool-lag : bookService pool-book 50 1 * 2 ≤ bookService pool-book 50 0 * 1 + (10 + 10 - 1) * 2
+pub pool-lag : bookService pool-book 50 1 * 512 ≤ bookService pool-book 50 0 * 256 + (10 + 10 - 1) * 512
 unfolding computing steps bookAfter enter movedAll holder latest weightThrough
 pool-lag =
     pool-holds .lag (omega arith) 10 pool-list pool [] refl 40 50 refl (omega arith) 1 0 (record { domain = omega arith; vcpu = omega arith })
@@ -77,7 +80,7 @@ here = record { domain = omega arith; vcpu = omega arith }
 there : PresentIn one-pcpu 1
 there = record { domain = omega arith; vcpu = omega arith }
 
--- ---- the bound attained: two vCPUs of weight 1 on one pCPU, slice 10, advances at 0 and 9. At 9 the one that runs has not run its
+-- ---- the bound attained: two vCPUs of weight 256 on one pCPU, slice 10, advances at 0 and 9. At 9 the one that runs has not run its
 -- slice, so that it runs on; ten ticks later it is ahead by 10 + 10 − 1
 
 abbrev pub even : List Call
@@ -101,15 +104,15 @@ pub even-does : (bookService even-book 19 0 ≡ 19) × (bookService even-book 19
 unfolding computing bookAfter enter movedAll holder
 even-does = (refl, refl)
 
-pub even-lag : bookService even-book 19 0 * 1 ≤ bookService even-book 19 1 * 1 + (10 + 10 - 1) * 1
+pub even-lag : bookService even-book 19 0 * 256 ≤ bookService even-book 19 1 * 256 + (10 + 10 - 1) * 256
 unfolding computing bookAfter enter movedAll holder latest weightThrough
 even-lag = even-holds .lag (omega arith) 10 even-list even [] refl 9 19 refl (omega arith) 0 1 here there refl refl
 
-pub bound-attained : bookService even-book 19 0 * 1 ≡ bookService even-book 19 1 * 1 + (10 + 10 - 1) * 1
+pub bound-attained : bookService even-book 19 0 * 256 ≡ bookService even-book 19 1 * 256 + (10 + 10 - 1) * 256
 unfolding computing bookAfter enter movedAll holder
 bound-attained = refl
 
--- ---- a member outside the policy's shape: the policy has 0/0 alone, so that 0/1 has the weight 1 and no other can be set. The mask of
+-- ---- a member outside the policy's shape: the policy has 0/0 alone, so that 0/1 has the weight 256 and no other can be set. The mask of
 -- 0/1 is set to one that admits every pCPU, and a dispatch of it while it is Offline is refused
 
 abbrev pub outside : Host
@@ -117,14 +120,14 @@ outside = freshHost 1 2 1 1 1 10
 
 abbrev pub lone : List Call
 lone =
-    Call.SetAffinity 0 1 (2 ^ 64 - 1) ∷ Call.Run 0 1 0 99 ∷ Call.SetWeight 0 0 2 ∷ Call.SetWeight 0 1 2 ∷ Call.Admit 0 0 ∷ Call.Admit 0 1
+    Call.SetAffinity 0 1 (2 ^ 64 - 1) ∷ Call.Run 0 1 0 99 ∷ Call.SetWeight 0 0 512 ∷ Call.SetWeight 0 1 2 ∷ Call.Admit 0 0 ∷ Call.Admit 0 1
     ∷ Call.Advance 0 ∷ Call.Advance 10 ∷ Call.Advance 20 ∷ Call.Advance 30 ∷ Call.Advance 40 ∷ []
 
 abbrev pub lone-book : Book
 lone-book = bookAfter one-pcpu outside (blankBook one-pcpu) lone
 
 -- the holder is 0/0, 0/1, 0/0, 0/0, 0/1, as with weights 2 and 1
-pub lone-does : (weightAt ((hostAfter outside lone) .scheduler) 0 ≡ 2) × (weightAt ((hostAfter outside lone) .scheduler) 1 ≡ 1)
+pub lone-does : (weightAt ((hostAfter outside lone) .scheduler) 0 ≡ 512) × (weightAt ((hostAfter outside lone) .scheduler) 1 ≡ 256)
     × (map (λ (r : Step). r .moves) (steps outside lone)
     ≡ [] ∷ [] ∷ [] ∷ [] ∷ [] ∷ [] ∷ (Run 0 0 ∷ []) ∷ (Preempt 0 0 ∷ Run 1 0 ∷ []) ∷ (Preempt 1 0 ∷ Run 0 0 ∷ []) ∷ [] ∷ (Preempt 0 0 ∷ Run 1 0 ∷ []) ∷ [])
     × (bookService lone-book 40 0 ≡ 30) × (bookService lone-book 40 1 ≡ 10)
@@ -136,7 +139,7 @@ unfolding computing
 lone-list =
     lists.prepares (lists.mask 0 1 (2 ^ 64 - 1) refl)
     (lists.refused {h = hostAfter outside (Call.SetAffinity 0 1 (2 ^ 64 - 1) ∷ [])} {c = Call.Run 0 1 0 99} (λ e. omega arith)
-    (lists.prepares (lists.weigh 0 0 2) (lists.prepares (lists.weigh 0 1 2)
+    (lists.prepares (lists.weigh 0 0 512) (lists.prepares (lists.weigh 0 1 2)
     (lists.prepares (lists.admit 0 0) (lists.prepares (lists.admit 0 1)
     (lists.starts (lists.advances {t = 0} {n = 10} (omega arith) (omega arith)
     (lists.advances {t = 10} {n = 20} (omega arith) (omega arith) (lists.advances {t = 20} {n = 30} (omega arith) (omega arith)
@@ -148,6 +151,15 @@ lone-holds =
     (search needs)
 
 -- the lag at 50, of 0/1, which runs, against 0/0, which waits
-pub lone-lag : bookService lone-book 50 1 * 2 ≤ bookService lone-book 50 0 * 1 + (10 + 10 - 1) * 2
+pub lone-lag : bookService lone-book 50 1 * 512 ≤ bookService lone-book 50 0 * 256 + (10 + 10 - 1) * 512
 unfolding computing bookAfter enter movedAll holder latest weightThrough
 lone-lag = lone-holds .lag (omega arith) 10 lone-list lone [] refl 40 50 refl (omega arith) 1 0 there here refl refl
+
+-- ---- whoever no weight was set for ranks as one set to 256: 0/1 of the first list, which is in the policy's shape, and 0/1 of the last
+
+pub pool-unset : (s : System) (now : ℕ) → RanksAt 256 s ((hostAfter pool-host pool) .scheduler) now 1
+unfolding weightThrough
+pool-unset = unset-ranks 1 3 1 2 4 10 (omega arith) (omega arith) (omega arith) pool 1 (unset.none (λ w. refl))
+
+pub lone-unset : (s : System) (now : ℕ) → RanksAt 256 s ((hostAfter outside lone) .scheduler) now 1
+lone-unset = unset-ranks 1 2 1 1 1 10 (omega arith) (omega arith) (omega arith) lone 1 (unset.outside refl)

@@ -3,7 +3,7 @@
 use Prim.Native.Nat.{ℕ, _+_}
 use mathlib.Core.Bool.{true}
 use mathlib.Core.Path.{refl}
-use mathlib.Core.List.{List, [], _∷_, map}
+use mathlib.Core.List.{List, [], _∷_, _++_, map}
 use lib.ListN.{length}
 use Rattle.rows.specs.Rows.{Row, row, rows, AllDue}
 use Rattle.system.specs.declared.Occupant.{Occupant}
@@ -130,10 +130,15 @@ abbrev holderOf : Occupant → ℕ
 holderOf Idle = 0
 holderOf (Vcpu d v) = v + 1
 
--- one pCPU, weights 2 and 1, slice 10
-abbrev two-to-one : List Call → ℕ
-two-to-one cs =
-    holderOf (occupantAt ((hostAfter (freshHost 1 2 1 1 2 10) (Call.SetWeight 0 0 2 ∷ Call.Admit 0 0 ∷ Call.Admit 0 1 ∷ cs)) .system) 0)
+-- one pCPU, slice 10: who holds it after advances at 0, 10, 20, 30, 40, where these calls set the weights
+abbrev holders : List Call → List ℕ
+holders weights =
+    let host : Host = hostAfter (freshHost 1 2 1 1 2 10) (weights ++ (Call.Admit 0 0 ∷ Call.Admit 0 1 ∷ [])) in
+    let after : List Call → ℕ = λ cs. holderOf (occupantAt ((hostAfter host cs) .system) 0) in
+    after (Call.Advance 0 ∷ []) ∷ after (Call.Advance 0 ∷ Call.Advance 10 ∷ [])
+    ∷ after (Call.Advance 0 ∷ Call.Advance 10 ∷ Call.Advance 20 ∷ [])
+    ∷ after (Call.Advance 0 ∷ Call.Advance 10 ∷ Call.Advance 20 ∷ Call.Advance 30 ∷ [])
+    ∷ after (Call.Advance 0 ∷ Call.Advance 10 ∷ Call.Advance 20 ∷ Call.Advance 30 ∷ Call.Advance 40 ∷ []) ∷ []
 
 -- 0/0 and 0/1 run from 0; 0/1 is blocked at 5 and wakes before the advance at 7
 abbrev asleep-between : Host
@@ -144,19 +149,18 @@ asleep-between =
 abbrev pub others : List Row
 others =
     -- a weight for 2/1, and for 0/9, whose slot would be that of 1/1; a weight of 0 becomes 1
-    rows (weightsAfter (Call.SetWeight 2 1 7)) (1 ∷ 1 ∷ 1 ∷ 1 ∷ 5 ∷ 1 ∷ [])
-    ∷ rows (weightsAfter (Call.SetWeight 0 9 7)) (1 ∷ 1 ∷ 1 ∷ 1 ∷ 5 ∷ 1 ∷ [])
-    ∷ rows (weightsAfter (Call.SetWeight 1 1 0)) (1 ∷ 1 ∷ 1 ∷ 1 ∷ 1 ∷ 1 ∷ [])
-    -- the holder after advances at 0, 10, 20, 30, 40: first, second, first, first, second
-    ∷ rows
-    (two-to-one (Call.Advance 0 ∷ []) ∷ two-to-one (Call.Advance 0 ∷ Call.Advance 10 ∷ [])
-    ∷ two-to-one (Call.Advance 0 ∷ Call.Advance 10 ∷ Call.Advance 20 ∷ [])
-    ∷ two-to-one (Call.Advance 0 ∷ Call.Advance 10 ∷ Call.Advance 20 ∷ Call.Advance 30 ∷ [])
-    ∷ two-to-one (Call.Advance 0 ∷ Call.Advance 10 ∷ Call.Advance 20 ∷ Call.Advance 30 ∷ Call.Advance 40 ∷ []) ∷ [])
-    (1 ∷ 2 ∷ 1 ∷ 1 ∷ 2 ∷ [])
+    rows (weightsAfter (Call.SetWeight 2 1 7)) (256 ∷ 256 ∷ 256 ∷ 256 ∷ 5 ∷ 256 ∷ [])
+    ∷ rows (weightsAfter (Call.SetWeight 0 9 7)) (256 ∷ 256 ∷ 256 ∷ 256 ∷ 5 ∷ 256 ∷ [])
+    ∷ rows (weightsAfter (Call.SetWeight 1 1 0)) (256 ∷ 256 ∷ 256 ∷ 256 ∷ 1 ∷ 256 ∷ [])
+    -- weights 2 and 1: first, second, first, first, second
+    ∷ rows (holders (Call.SetWeight 0 0 2 ∷ Call.SetWeight 0 1 1 ∷ [])) (1 ∷ 2 ∷ 1 ∷ 1 ∷ 2 ∷ [])
+    -- and 512 where the second has none of its own
+    ∷ rows (holders (Call.SetWeight 0 0 512 ∷ [])) (1 ∷ 2 ∷ 1 ∷ 1 ∷ 2 ∷ [])
+    -- half of the share of one that has none of its own, 128: first, second, second, second, first
+    ∷ rows (holders (Call.SetWeight 0 0 128 ∷ [])) (1 ∷ 2 ∷ 2 ∷ 2 ∷ 1 ∷ [])
     -- a host of 0 pCPUs only ever decides Idle
     ∷ row (count (hostAfter (freshHost 1 2 0 1 2 10) (Call.Admit 0 0 ∷ Call.Admit 0 1 ∷ [])) (Call.Advance 10)) 0
-    -- a block and a wake between two advances are no wake edge: no offset, though the floor is 7 over 1
+    -- a block and a wake between two advances are no wake edge: no offset, though the floor is 7 over 256
     ∷ row (offsetOf (accounted (asleep-between .system) (asleep-between .scheduler) 7) 0 1) 0
     ∷ []
 

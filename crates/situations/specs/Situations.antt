@@ -91,7 +91,9 @@ waker =
 -- the same at weights 1, with 10 ticks run by 0/1
 abbrev waker-again : Host
 waker-again =
-    host 1 2 2 (Call.Admit 0 1 ∷ Call.Run 0 1 1 0 ∷ Call.Block 0 1 10 ∷ Call.Admit 0 0 ∷ Call.Advance 0 ∷ Call.Wake 0 1 ∷ [])
+    host 1 2 2
+    (Call.SetWeight 0 0 1 ∷ Call.SetWeight 0 1 1 ∷ Call.Admit 0 1 ∷ Call.Run 0 1 1 0 ∷ Call.Block 0 1 10
+    ∷ Call.Admit 0 0 ∷ Call.Advance 0 ∷ Call.Wake 0 1 ∷ [])
 
 -- the host with the offset 100 for 0/1
 abbrev lifted-before : Host → Host

@@ -1,0 +1,27 @@
+-- A vCPU that no weight was set for ranks as one set to 256. Assumes nothing.
+use Prim.Native.Nat.{ℕ, _/_, _%_}
+use mathlib.Core.Bool.{Bool, true, false, cond}
+use mathlib.Core.Path.{_≡_, refl, _∙_}
+use mathlib.Core.List.{List}
+use Rattle.policy.specs.Accounts.{inShape}
+use Rattle.policy.proofs.Laws.{ranks-at}
+use Rattle.host.specs.declared.Call.{Call}
+use Rattle.host.specs.Step.{freshHost}
+use Rattle.demand3.specs.Weights.{weightThrough, weightAfter}
+use Rattle.demand3.specs.Unset.{Unset, none, outside, UnsetRanks}
+use Rattle.demand3.proofs.WeightCalls.{weighs-all, after-weighs}
+use Rattle.demand3.proofs.Conclusions.{fresh-kept, fresh-weighs}
+
+unset-weight : {e u d v : ℕ} {cs : List Call} → Unset e u d v cs → weightAfter e u cs d v ≡ 256
+unset-weight {e} {u} {d} {v} {cs} (none f) = go (inShape e u d v)
+  where
+    go : (b : Bool) → cond b (weightThrough d v 256 cs) 256 ≡ 256
+    go true = f 256
+    go false = refl
+unset-weight (outside x) = rw x
+
+pub unset-ranks : UnsetRanks
+unset-ranks d v p e u q hd hv hp cs i n =
+    ranks-at
+    (weighs-all (after-weighs cs (freshHost d v p e u q) (fresh-kept d v p e u q hd hv hp) (fresh-weighs d v p e u q hd hv hp)) (i / 8) (i % 8)
+    ∙ unset-weight n)
