@@ -3,8 +3,9 @@
 
   bench/times.py PORT UPSTREAM     two folders
 
-PORT has bench_calls, bench_advance and replay; UPSTREAM has calls, advances and reference, which answer the same.
-bench/run makes them all.
+PORT has bench_calls, bench_advance and replay; UPSTREAM has calls, advances and reference. bench/run makes them all.
+What the port writes is compared with what upstream gives. A script is timed on upstream alone, `reference plain`, whose
+placements are always on the lowest pCPU; `reference replay`, which is not timed, says what the port has to write.
 """
 import pathlib
 import random
@@ -71,15 +72,17 @@ def scripts():
 
 
 def timed(port, upstream):
-    """All that is timed: name, the two commands, what they read, how many calls that makes."""
+    """All that is timed: name, the two commands and the one that gives the answers, what they read, how many calls that
+    makes."""
     rounds = 200_000
-    calls = [port / "bench_calls"], [upstream / "calls"]
+    calls = [port / "bench_calls"], [upstream / "calls"], [upstream / "calls"]
     yield "transition, 128 vCPUs on 64 pCPUs", calls, struct.pack(">I", rounds), 4 * rounds
-    advances = [port / "bench_advance"], [upstream / "advances"]
+    advances = [port / "bench_advance"], [upstream / "advances"], [upstream / "advances"]
     for times, (domains, vcpus, pcpus) in ADVANCES:
         name = f"advance, {domains * vcpus} vCPUs on {pcpus} pCPU{'s' * (pcpus > 1)}"
         yield name, advances, struct.pack(">IBBB", times, domains, vcpus, pcpus), times
-    replays = [port / "replay"], [upstream / "reference", "replay"]
+    reference = upstream / "reference"
+    replays = [port / "replay"], [reference, "plain"], [reference, "replay"]
     for name, data in scripts():
         yield name, replays, data, len(data) // 20
 
@@ -92,10 +95,12 @@ def once(command, path):
 
 
 def compare(name, commands, path, calls):
-    rounds = [[once(command, path) for command in commands] for _ in range(ROUNDS)]
-    if not all(port[1] and port[1] == upstream[1] for port, upstream in rounds):
+    *pair, answering = commands
+    answers = once(answering, path)[1]
+    rounds = [[once(command, path) for command in pair] for _ in range(ROUNDS)]
+    if not answers or any(port[1] != answers for port, _ in rounds):
         sys.exit(f"bench/times.py: {name}: the answers differ")
-    port, upstream = (min(pair[i][0] for pair in rounds) / calls * 1e9 for i in (0, 1))
+    port, upstream = (min(runs[i][0] for runs in rounds) / calls * 1e9 for i in (0, 1))
     print(f"{name}: port {port:.0f} ns a call, upstream {upstream:.0f} ns, ratio {port / upstream:.2f}", flush=True)
 
 

@@ -3,13 +3,13 @@
 use super::{Generator, LARGE, LOOK};
 use crate::examine::examine;
 use crate::fields::{oversize, verdict, Verdict, DISPATCH, DOMAIN_COUNT, MASK, OCCUPANT, OFFSET_HIGH, OFFSET_LOW};
-use crate::fields::{PCPU_COUNT, POLICY_DOMAINS, POLICY_VCPUS, RUN_TIME, SLICE, STATE, WEIGHT};
+use crate::fields::{LAST, PCPU_COUNT, POLICY_DOMAINS, POLICY_VCPUS, RUN_TIME, SLICE, STATE, WEIGHT};
 use crate::sched::{RunState, Violation};
 use crate::script::{Host, Record, RECORD, SIZES};
 
 // what harms is mostly a state or a holder
-const HARMS: [u64; 24] = [
-    13, 13, 13, 13, 13, 13, 13, 16, 16, 16, 17, 17, 17, 17, 17, 17, 17, 18, 19, 20, 14, 15, 21, 22,
+const HARMS: [u64; 25] = [
+    13, 13, 13, 13, 13, 13, 13, 16, 16, 16, 17, 17, 17, 17, 17, 17, 17, 18, 19, 20, 14, 15, 21, 22, 29,
 ];
 /// The values of a state: Offline, Runnable, Running, Blocked.
 const RUNNABLE: u64 = 1;
@@ -87,14 +87,14 @@ impl Generator {
 
     /// Any field, written anyhow.
     fn harm(&mut self) -> Record {
-        let any = u64::from(STATE) + self.rng.below(16);
+        let any = u64::from(STATE) + self.rng.below(u64::from(LAST - STATE) + 1);
         let kind = match self.rng.below(6) {
             0 => any,
             _ => self.rng.pick(&HARMS),
         } as u16;
         let (domain, vcpu) = if kind == OCCUPANT { self.holder() } else { self.slot() };
         let third = match kind {
-            STATE => self.any_pcpu(),
+            STATE | LAST => self.any_pcpu(),
             WEIGHT => self.stored_weight(),
             _ => self.pcpu(domain, vcpu),
         };
@@ -178,9 +178,13 @@ impl Generator {
     fn spare(&mut self) -> Record {
         let (domain, vcpu) = self.slot();
         let runs = self.replay.host.as_ref().is_some_and(|host| host.system.is_running(domain, vcpu));
-        let any = self.rng.pick(&[14, 14, 15, 15, 21, 22, 23, 24, 25, 25, 25, 26, 26, 27, 28, 28]) as u16;
+        let any = self.rng.pick(&[14, 14, 15, 15, 21, 22, 23, 24, 25, 25, 25, 26, 26, 27, 28, 28, 29, 29, 29]) as u16;
         let kind = if runs { any } else { self.rng.pick(&[u64::from(any), u64::from(any), 13, 16]) as u16 };
-        let third = if kind == WEIGHT { self.stored_weight() } else { self.pcpu(domain, vcpu) };
+        let third = match kind {
+            WEIGHT => self.stored_weight(),
+            LAST => self.any_pcpu(),
+            _ => self.pcpu(domain, vcpu),
+        };
         let value = match kind {
             STATE => self.rng.pick(&[0, RUNNABLE, RUNNABLE, BLOCKED]),
             MASK => self.any_mask(domain, vcpu),

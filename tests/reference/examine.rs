@@ -1,14 +1,16 @@
 //! Upstream's reads after each record, as the program `examine` writes them. Kinds above a script's: 11 is
 //! `offline_all` (domain, value the clock); 12 builds a host whose policy has a shape of its own: its domains are the
-//! value's first byte, its vCPUs the second, the slice the other six; 13 to 28 write a field with no test. Answer 8 and
-//! the verdict Oversize are added here; when it is told goes by upstream's own verdict.
-use crate::lines::{answer, numbers};
+//! value's first byte, its vCPUs the second, the slice the other six; 13 to 29 write a field with no test. Answer 8 and
+//! the verdict Oversize are added here; when it is told goes by upstream's own verdict. What `next` decides is
+//! upstream's, but that last.rs names the pCPU of a Run.
 use crate::fields::{self, names_field, verdict, Verdict};
+use crate::lines::{answer, numbers};
+use crate::placements::{placed, Placement};
 use crate::policy::Decision;
 use crate::sched::{RunState, System, Violation};
-use crate::script::{told, unless_overflow, Host, Record, Replay, Told, BAD_SCRIPT, DONE, SIZES, TOO_LARGE, UNSOUND};
+use crate::script::{told, unless_overflow, Host, Record, Replay, Scripted, Told};
+use crate::script::{ADVANCE, BAD_SCRIPT, DONE, SIZES, TOO_LARGE, UNSOUND};
 
-pub const ADVANCE: u16 = 9;
 pub const SET_BOOST: u16 = 10;
 pub const OFFLINE_ALL: u16 = 11;
 pub const BUILD_APART: u16 = 12;
@@ -36,8 +38,10 @@ pub struct Reads {
     pub verdict: Verdict,
     /// Not asked of a system that is not sound.
     pub next: Option<Decision>,
+    /// Of a Run that it decides on.
+    pub placement: Option<Placement>,
     /// What is kept at the slot of the ids, within the counts or not.
-    pub kept: [u64; 8],
+    pub kept: [u64; 9],
 }
 
 /// What a record is told, and what can then be read at its ids; no reads without a host.
@@ -68,9 +72,13 @@ pub fn examine(replay: &mut Replay, bytes: &[u8]) -> Option<Answered> {
 
 pub fn write(out: &mut Vec<u8>, count: u64, answered: &Answered) {
     answer(out, count, answered.told);
-    for line in answered.reads.iter().flat_map(Reads::lines) {
+    if let Some(reads) = &answered.reads {
+        for line in reads.lines() {
+            out.push(b' ');
+            numbers(out, &line);
+        }
         out.push(b' ');
-        numbers(out, &line);
+        numbers(out, &reads.kept);
     }
 }
 
@@ -96,6 +104,7 @@ fn set_boost(replay: &mut Replay, bytes: &[u8]) -> Option<Told> {
 
 fn offline_all(replay: &mut Replay, r: Record) -> Told {
     let Some(host) = replay.host.as_mut() else { return told(BAD_SCRIPT) };
+    host.last.all_off(&host.system, r.domain);
     host.system.offline_all(r.domain, r.value);
     told(DONE)
 }
@@ -119,9 +128,12 @@ fn build_apart(replay: &mut Replay, r: Record) -> Told {
 fn reads(host: &Host, r: Record) -> Option<Reads> {
     let (s, d, v) = (&host.system, r.domain, r.vcpu);
     let verdict = verdict(host);
-    let next = match verdict {
-        Verdict::Sound => Some(unless_overflow(|| host.policy.next(s, r.value))?),
-        _ => None,
+    let (next, placement) = match verdict {
+        Verdict::Sound => {
+            let (next, placement) = placed(&host.last, s, unless_overflow(|| host.policy.next(s, r.value))?);
+            (Some(next), placement)
+        }
+        _ => (None, None),
     };
     Some(Reads {
         state: s.state_of(d, v),
@@ -143,6 +155,7 @@ fn reads(host: &Host, r: Record) -> Option<Reads> {
         holder: s.occupant(r.third),
         verdict,
         next,
+        placement,
         kept: fields::kept(host, r),
     })
 }
@@ -154,9 +167,9 @@ fn until(s: &System, d: u16, v: u32, reading: u64) -> u128 {
 }
 
 impl Reads {
-    /// As the program writes them.
-    fn lines(&self) -> [[u64; 8]; 5] {
-        [self.vcpu(), self.domain(), self.whole(), self.decided(), self.kept]
+    /// As the program writes them, but for what is kept.
+    fn lines(&self) -> [[u64; 8]; 4] {
+        [self.vcpu(), self.domain(), self.whole(), self.decided()]
     }
 
     fn vcpu(&self) -> [u64; 8] {

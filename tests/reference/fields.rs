@@ -1,5 +1,5 @@
 //! The fields of a host as they stand in the port's tables, which are of one size whatever the counts: one of them
-//! written with no test, by a record of kind 13 to 28, and what is kept at a slot. Upstream's tables end at its counts:
+//! written with no test, by a record of kind 13 to 29, and what is kept at a slot. Upstream's tables end at its counts:
 //! what stands past them is kept here, and a count above its size is held at it, as reads hold it.
 use crate::policies::{Account, Policy, DEFAULT_WEIGHT};
 use crate::sched::{RunState, System, Violation};
@@ -20,6 +20,7 @@ pub const WEIGHT: u16 = 25;
 pub const OFFSET_LOW: u16 = 26;
 pub const OFFSET_HIGH: u16 = 27;
 pub const SNAPSHOT: u16 = 28;
+pub const LAST: u16 = 29;
 
 const DOMAINS: u16 = SIZES[0] as u16;
 const VCPUS: u32 = SIZES[1] as u32;
@@ -39,14 +40,15 @@ pub struct Tables {
 }
 
 pub fn names_field(kind: u16) -> bool {
-    (STATE..=SNAPSHOT).contains(&kind)
+    (STATE..=LAST).contains(&kind)
 }
 
 fn slot(domain: u16, vcpu: u32) -> usize {
     usize::from(domain) * VCPUS as usize + vcpu as usize
 }
 
-fn ids() -> impl Iterator<Item = (u16, u32)> {
+/// Of every slot.
+pub fn ids() -> impl Iterator<Item = (u16, u32)> {
     (0..DOMAINS).flat_map(|d| (0..VCPUS).map(move |v| (d, v)))
 }
 
@@ -75,7 +77,6 @@ impl Tables {
         }
         tables
     }
-
 
     fn write(&mut self, r: Record) {
         let at = slot(r.domain % DOMAINS, r.vcpu % VCPUS);
@@ -113,6 +114,7 @@ fn rows<T: Copy>(counts: &[u64], table: &[T; SLOTS]) -> Vec<Vec<T>> {
 /// Writes the field that the record's kind names.
 pub fn write(host: &mut Host, r: Record) {
     let mut tables = Tables::of(host);
+    let mut last = host.last.clone();
     let (mut counts, mut policy_counts) = (host.counts, host.policy_counts);
     let (mut slice, mut boost) = (host.policy.quantum(), host.policy.boosts());
     match r.kind {
@@ -120,11 +122,14 @@ pub fn write(host: &mut Host, r: Record) {
         POLICY_DOMAINS..=POLICY_VCPUS => policy_counts[usize::from(r.kind - POLICY_DOMAINS)] = r.value,
         SLICE => slice = r.value,
         BOOST => boost = r.value != 0,
+        LAST => last.write(r),
         _ => tables.write(r),
     }
     let system = System::of(&rows(&counts, &tables.vcpus), &tables.pcpus[..counts[2].min(SIZES[2]) as usize]);
     let policy = Policy::of(counts, policy_counts, &rows(&policy_counts, &tables.accounts), slice, boost);
-    *host = Host { system, policy, counts, policy_counts, tables: Some(Box::new(tables)) };
+    // what was placed elsewhere may still stand
+    let elsewhere = host.elsewhere;
+    *host = Host { system, policy, counts, policy_counts, tables: Some(Box::new(tables)), last, elsewhere };
 }
 
 /// Boost clears all offsets, those past the policy's counts too.
@@ -134,8 +139,8 @@ pub fn clear_offsets(host: &mut Host) {
     }
 }
 
-/// The weight as stored, the offset by limbs, the snapshot, the boost, the clock of the last dispatch.
-pub fn kept(host: &Host, r: Record) -> [u64; 8] {
+/// The weight as stored, the offset by limbs, the snapshot, the boost, the clock and the pCPU of the last dispatch.
+pub fn kept(host: &Host, r: Record) -> [u64; 9] {
     let (d, v) = (r.domain % DOMAINS, r.vcpu % VCPUS);
     let past = |tables: &Tables| (tables.vcpus[slot(d, v)].2, tables.accounts[slot(d, v)]);
     let (dispatch, account) = host.tables.as_deref().map_or((0, PLAIN), past);
@@ -143,7 +148,8 @@ pub fn kept(host: &Host, r: Record) -> [u64; 8] {
     let (weight, offset, snapshot) = host.policy.kept(d, v).unwrap_or(account);
     let limb = |i: u32| (offset >> (32 * i)) as u64 & 0xffff_ffff;
     let [snapshot, boost] = [snapshot, host.policy.boosts()].map(u64::from);
-    [u64::from(weight), limb(0), limb(1), limb(2), limb(3), snapshot, boost, dispatch]
+    let last = u64::from(host.last.of(d, v).pcpu);
+    [u64::from(weight), limb(0), limb(1), limb(2), limb(3), snapshot, boost, dispatch, last]
 }
 
 /// Which counts of the system are above their sizes.

@@ -1,8 +1,7 @@
 //! What the programs write: a line for each record, and for `trace` the host after it.
+use crate::last::NO_PCPU;
 use crate::sched::RunState;
 use crate::script::{Host, Told};
-
-const NO_PCPU: u64 = 64;
 
 pub fn answer(out: &mut Vec<u8>, count: u64, told: Told) {
     numbers(out, &[count, u64::from(told.answer), u64::from(told.moves)]);
@@ -24,23 +23,24 @@ pub fn host(out: &mut Vec<u8>, host: &Host) {
     }
 }
 
-fn record(host: &Host, domain: u16, vcpu: u32) -> [u64; 8] {
+fn record(host: &Host, domain: u16, vcpu: u32) -> [u64; 9] {
     let system = &host.system;
     let (state, pcpu) = match system.state_of(domain, vcpu).unwrap() {
         RunState::Offline => (0, NO_PCPU),
         RunState::Runnable => (1, NO_PCPU),
-        RunState::Running { pcpu } => (2, u64::from(pcpu)),
+        RunState::Running { pcpu } => (2, pcpu),
         RunState::Blocked => (3, NO_PCPU),
     };
     [
         u64::from(domain),
         u64::from(vcpu),
         state,
-        pcpu,
+        u64::from(pcpu),
         system.on_cpu_since(domain, vcpu).unwrap_or(0),
         system.runtime(domain, vcpu).unwrap(),
         system.affinity_of(domain, vcpu).unwrap(),
         u64::from(host.policy.weight_of(domain, vcpu)),
+        u64::from(host.last.of(domain, vcpu).pcpu),
     ]
 }
 

@@ -1,7 +1,8 @@
 //! Upstream's mechanism and policy, run by scripts: what the programs are compared with.
 //!
 //!   reference replay               records from standard input, a line for each
-//!   reference trace                the same, and the host after each
+//!   reference plain                the same by upstream alone, every placement on the lowest pCPU: what is timed
+//!   reference trace                as replay, and the host after each
 //!   reference examine              records of `examine`, and every read after each
 //!   reference generate SEED CALLS [small | examined | damaged]
 //!                                  a random script; with `small`, on hosts of a few vCPUs; with `examined`,
@@ -17,14 +18,18 @@
 //!   reference reached [damaged]    whether the records of standard input reach every outcome of every read; with
 //!                                  `damaged`, every verdict and what else such records have to reach
 extern crate alloc;
+mod advance;
 mod calls;
 mod comparison;
 mod examine;
 mod fields;
 mod generate;
+mod last;
 mod lines;
 mod outcomes;
 mod outside_policy;
+mod placements;
+mod plain;
 mod policies;
 mod policy;
 mod program;
@@ -36,7 +41,8 @@ mod tally;
 mod verdicts;
 
 use comparison::Comparison;
-use script::{Replay, RECORD};
+use plain::Plain;
+use script::{Host, Replay, Scripted, RECORD};
 use std::io::{BufReader, Read, Write};
 use std::process::ExitCode;
 
@@ -45,8 +51,9 @@ fn main() -> ExitCode {
     let args: Vec<String> = std::env::args().skip(1).collect();
     let args: Vec<&str> = args.iter().map(String::as_str).collect();
     match args[..] {
-        ["replay"] => replay(false),
-        ["trace"] => replay(true),
+        ["replay"] => replay::<Host>(|_, _| {}),
+        ["plain"] => replay::<Plain>(|_, _| {}),
+        ["trace"] => replay(lines::host),
         ["examine"] => examine(),
         ["generate", seed, calls] => print(&generate::script(number(seed), number(calls) as usize, false)),
         ["generate", seed, calls, "small"] => print(&generate::script(number(seed), number(calls) as usize, true)),
@@ -68,7 +75,7 @@ fn main() -> ExitCode {
         ["reached"] => reads::reached::<reads::Called>(&input()),
         ["reached", "damaged"] => reads::reached::<verdicts::Damaged>(&input()),
         _ => {
-            eprintln!("usage: reference replay | trace | examine | reached [damaged]");
+            eprintln!("usage: reference replay | plain | trace | examine | reached [damaged]");
             eprintln!("       reference generate SEED CALLS [small | examined | damaged]");
             eprintln!("       reference compare SEED CALLS SECONDS TRACE REPLAY FOLDER");
             eprintln!("       reference reads | damage SEED RECORDS SECONDS EXAMINE FOLDER");
@@ -97,13 +104,14 @@ fn print(script: &[u8]) -> ExitCode {
     ExitCode::SUCCESS
 }
 
-fn replay(states: bool) -> ExitCode {
-    let mut replay = Replay::default();
+/// A line for each record, and what `show` writes of the host after it.
+fn replay<H: Scripted>(show: fn(&mut Vec<u8>, &H)) -> ExitCode {
+    let mut replay = Replay::<H>::default();
     answer_all(|out, count, record| {
         let told = replay.tell(record)?;
         lines::answer(out, count, told);
-        if let (true, Some(host)) = (states, &replay.host) {
-            lines::host(out, host);
+        if let Some(host) = &replay.host {
+            show(out, host);
         }
         Some(())
     })

@@ -75,6 +75,18 @@ impl Policy {
         of_either!(self, p => p.advance(system, now))
     }
 
+    /// What an advance does before its first decision.
+    pub fn account(&mut self, system: &System, now: u64) {
+        of_either!(self, p => p.account_alone(system, now))
+    }
+
+    pub fn copy(&self) -> Policy {
+        match self {
+            Policy::Covering(p) => Policy::Covering(p.copy()),
+            Policy::Short(p) => Policy::Short(p.copy()),
+        }
+    }
+
     pub fn next(&self, system: &System, now: u64) -> Decision {
         match self {
             Policy::Covering(p) => p.next(system, now),

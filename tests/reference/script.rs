@@ -1,11 +1,17 @@
-//! Records, and upstream's host behind them. Only the answers 7 and 9 are added here; all else is upstream's. Its one
-//! WrongState is told by the number of the state that its own `state_of` gives just before the call.
+//! Records, and upstream's host behind them. Only the answers 7 and 9 are added here, and beside the host the pCPU that
+//! each vCPU was last on; all else is upstream's. Its one WrongState is told by the number of the state that its own
+//! `state_of` gives just before the call.
+use crate::advance::{advance, Advances};
 use crate::fields::Tables;
+use crate::last::Last;
 use crate::policies::Policy;
 use crate::sched::{RunState, SchedError, System};
 use std::panic::{catch_unwind, resume_unwind, AssertUnwindSafe};
 
 pub const RECORD: usize = 20;
+pub const RUN: u16 = 2;
+pub const OFFLINE: u16 = 6;
+pub const ADVANCE: u16 = 9;
 /// Kinds of a script are numbers up to this.
 pub const LAST_KIND: u16 = 10;
 // the answers; upstream has neither 7, 8 nor 9, and one for 4, 10, 11 and 12
@@ -92,17 +98,13 @@ pub struct Host {
     pub policy_counts: [u64; 2],
     /// What stands past the counts, once a field was written with no test.
     pub tables: Option<Box<Tables>>,
+    /// The pCPU that each vCPU was last on.
+    pub last: Last,
+    /// Whether an advance has placed elsewhere than on the lowest since the build.
+    pub elsewhere: bool,
 }
 
 impl Host {
-    /// Of counts within the sizes.
-    pub fn new(counts: [u64; 3], policy_counts: [u64; 2], slice: u64) -> Host {
-        let [domains, vcpus, pcpus] = counts.map(|n| n as usize);
-        let system = System::new(domains, vcpus, pcpus);
-        let policy = Policy::new(counts, policy_counts, slice);
-        Host { system, policy, counts, policy_counts, tables: None }
-    }
-
     /// When each Running vCPU of a domain was dispatched.
     pub fn dispatches(&self, domain: u16) -> Vec<u64> {
         let vcpus = 0..self.system.vcpu_count(domain) as u32;
@@ -110,13 +112,52 @@ impl Host {
     }
 }
 
-/// A script under way: no host before its first successful build.
-#[derive(Default)]
-pub struct Replay {
-    pub host: Option<Host>,
+/// A host as scripts want it.
+pub trait Scripted {
+    /// Of counts within the sizes.
+    fn new(counts: [u64; 3], policy_counts: [u64; 2], slice: u64) -> Self;
+
+    /// What a call is told that is no advance.
+    fn call(&mut self, r: Record) -> u8;
+
+    /// The moves; `None` where upstream's own sum of a service overflows.
+    fn advance(&mut self, now: u64, advances: &mut Advances) -> Option<u32>;
 }
 
-impl Replay {
+impl Scripted for Host {
+    fn new(counts: [u64; 3], policy_counts: [u64; 2], slice: u64) -> Host {
+        let [domains, vcpus, pcpus] = counts.map(|n| n as usize);
+        let system = System::new(domains, vcpus, pcpus);
+        let policy = Policy::new(counts, policy_counts, slice);
+        Host { system, policy, counts, policy_counts, tables: None, last: Last::built(), elsewhere: false }
+    }
+
+    fn call(&mut self, r: Record) -> u8 {
+        let answer = answer(&mut self.system, &mut self.policy, r);
+        if answer == DONE {
+            self.last.called(r);
+        }
+        answer
+    }
+
+    fn advance(&mut self, now: u64, advances: &mut Advances) -> Option<u32> {
+        advance(self, now, advances)
+    }
+}
+
+/// A script under way: no host before its first successful build.
+pub struct Replay<H = Host> {
+    pub host: Option<H>,
+    pub advances: Advances,
+}
+
+impl<H> Default for Replay<H> {
+    fn default() -> Replay<H> {
+        Replay { host: None, advances: Advances::default() }
+    }
+}
+
+impl<H: Scripted> Replay<H> {
     /// `None` where upstream's own sum of a service overflows. The host is then gone.
     pub fn tell(&mut self, bytes: &[u8]) -> Option<Told> {
         match Record::read(bytes) {
@@ -131,14 +172,14 @@ impl Replay {
         if shape.iter().zip(SIZES).any(|(n, size)| *n > size) {
             return told(TOO_LARGE);
         }
-        self.host = Some(Host::new(shape, [shape[0], shape[1]], r.value));
+        self.host = Some(H::new(shape, [shape[0], shape[1]], r.value));
         told(DONE)
     }
 
     fn call(&mut self, r: Record) -> Option<Told> {
         let Some(host) = self.host.as_mut() else { return Some(told(BAD_SCRIPT)) };
-        if r.kind == 9 {
-            let moves = advance(host, r.value);
+        if r.kind == ADVANCE {
+            let moves = host.advance(r.value, &mut self.advances);
             if moves.is_none() {
                 self.host = None;
             }
@@ -148,27 +189,25 @@ impl Replay {
     }
 }
 
-impl Host {
-    fn call(&mut self, r: Record) -> u8 {
-        let found = self.system.state_of(r.domain, r.vcpu);
-        number(self.result(r), found)
-    }
+/// What upstream answers to a call that is no advance.
+pub fn answer(system: &mut System, policy: &mut Policy, r: Record) -> u8 {
+    let found = system.state_of(r.domain, r.vcpu);
+    number(result(system, policy, r), found)
+}
 
-    fn result(&mut self, r: Record) -> Result<(), SchedError> {
-        let s = &mut self.system;
-        match r.kind {
-            1 => s.admit(r.domain, r.vcpu)?,
-            2 => s.run(r.domain, r.vcpu, r.third, r.value)?,
-            3 => s.preempt(r.domain, r.vcpu, r.value)?,
-            4 => s.block(r.domain, r.vcpu, r.value)?,
-            5 => s.wake(r.domain, r.vcpu)?,
-            6 => s.offline(r.domain, r.vcpu, r.value)?,
-            7 => s.set_affinity(r.domain, r.vcpu, r.value)?,
-            8 => self.policy.set_weight(r.domain, r.vcpu, r.third),
-            _ => self.policy.set_wake_boost(r.value != 0),
-        }
-        Ok(())
+fn result(s: &mut System, policy: &mut Policy, r: Record) -> Result<(), SchedError> {
+    match r.kind {
+        1 => s.admit(r.domain, r.vcpu)?,
+        RUN => s.run(r.domain, r.vcpu, r.third, r.value)?,
+        3 => s.preempt(r.domain, r.vcpu, r.value)?,
+        4 => s.block(r.domain, r.vcpu, r.value)?,
+        5 => s.wake(r.domain, r.vcpu)?,
+        OFFLINE => s.offline(r.domain, r.vcpu, r.value)?,
+        7 => s.set_affinity(r.domain, r.vcpu, r.value)?,
+        8 => policy.set_weight(r.domain, r.vcpu, r.third),
+        _ => policy.set_wake_boost(r.value != 0),
     }
+    Ok(())
 }
 
 /// What every call but an advance is told: no moves.
@@ -198,11 +237,6 @@ fn found_in(state: RunState) -> u8 {
 }
 
 const OVERFLOW: &str = "attempt to add with overflow";
-
-fn advance(host: &mut Host, now: u64) -> Option<u32> {
-    let Host { system, policy, .. } = host;
-    unless_overflow(|| policy.advance(system, now))
-}
 
 /// `None` where upstream's own sum of a service overflows on the way.
 pub fn unless_overflow<T>(answer: impl FnOnce() -> T) -> Option<T> {

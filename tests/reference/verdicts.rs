@@ -1,13 +1,14 @@
 //! Random records for `examine` that write fields with no test: every verdict, every answer, every read.
 use crate::comparison::{length, Comparison, BUDGET};
 use crate::examine::{wants_sound, Reads, BUILD_APART, OFFLINE_ALL};
-use crate::fields::{names_field, oversize, Verdict, SNAPSHOT, STATE};
+use crate::fields::{names_field, oversize, Verdict, LAST, STATE};
 use crate::generate::{damaged, Rng};
+use crate::last::NO_PCPU;
 use crate::outcomes::{Outcome, Seen, When::Read};
 use crate::policies::DEFAULT_WEIGHT;
 use crate::reads::{Records, Sort};
 use crate::sched::{RunState, Violation};
-use crate::script::{Host, Record, BAD_SCRIPT, DONE, SIZES, TOO_LARGE, UNSOUND};
+use crate::script::{Host, BAD_SCRIPT, DONE, SIZES, TOO_LARGE, UNSOUND};
 use crate::tally::{kinds, Of::*, Row};
 use std::cmp::Ordering::Greater;
 use std::process::ExitCode;
@@ -25,13 +26,14 @@ pub struct Damaged;
 
 impl Sort for Damaged {
     const OUTCOMES: &'static [Outcome] = OUTCOMES;
+    const WRITES: bool = true;
 
     fn answers() -> Vec<Row> {
         let more = [
             ("all off", Kind(OFFLINE_ALL), vec![DONE, BAD_SCRIPT]),
             ("apart", Kind(BUILD_APART), vec![DONE, TOO_LARGE]),
-            ("a field", Kinds(STATE, SNAPSHOT), vec![DONE, BAD_SCRIPT]),
-            ("above 28", KindAbove(SNAPSHOT), vec![BAD_SCRIPT]),
+            ("a field", Kinds(STATE, LAST), vec![DONE, BAD_SCRIPT]),
+            ("above 29", KindAbove(LAST), vec![BAD_SCRIPT]),
             ("cut off", CutOff, vec![BAD_SCRIPT]),
         ];
         kinds().into_iter().chain(more).map(or_unsound).collect()
@@ -127,7 +129,28 @@ const OUTCOMES: &[Outcome] = &[
         Read(|read, _| read.kept[5] == 1 && read.state == Some(RunState::Blocked)),
     ),
     ("kept at a slot past the counts", Read(|read, seen| read.state.is_none() && read.kept[7] > 0 && written(seen))),
+    // the pCPU that a vCPU was last on
+    ("a pCPU kept at a slot past the counts", Read(|read, seen| slot_past(seen) && keeps(read))),
+    ("a pCPU kept though Offline", Read(|read, _| read.state == Some(RunState::Offline) && keeps(read))),
+    (
+        "a pCPU kept over offline_all by one that was Offline",
+        Read(|read, seen| seen.is(OFFLINE_ALL, DONE) && read.state.is_some() && keeps(read)),
+    ),
+    ("sound, and Running on another than the one kept", Read(|read, _| read.sound && read.running && runs_off(read))),
 ];
+
+fn slot_past(seen: &Seen) -> bool {
+    let (d, v) = (seen.record.domain % SIZES[0] as u16, seen.record.vcpu % SIZES[1] as u32);
+    seen.host.is_some_and(|host| host.system.record(d, v).is_none())
+}
+
+fn keeps(read: &Reads) -> bool {
+    read.kept[8] != u64::from(NO_PCPU)
+}
+
+fn runs_off(read: &Reads) -> bool {
+    !matches!(read.state, Some(RunState::Running { pcpu }) if u64::from(pcpu) == read.kept[8])
+}
 
 fn wrote(seen: &Seen) -> bool {
     names_field(seen.record.kind) && seen.told.answer == DONE

@@ -4,7 +4,7 @@ import subprocess
 
 ROOT = pathlib.Path(__file__).resolve().parent.parent.parent
 # the first opens with a call before any build, the last closes with a record that is cut off
-EXAMPLES = ["refusals", "first", "payment-run", "small-plan", "month-end"]
+EXAMPLES = ["refusals", "first", "payment-run", "small-plan", "warm-pcpu", "month-end"]
 BEFORE = [f"examples/{name}.txt" for name in EXAMPLES] + ["tests/sample/situations.txt"]
 LAST = "tests/sample/edges.txt"
 # not stored: upstream's sum overflows in it

@@ -3,4 +3,4 @@
 -- what an advance of a sound system does, and that its accounting keeps the slice
 pub use Rattle.advance.proofs.Enacting.{accounted-slice, advance-does}
 -- what `next` recommends is accepted, and an advance's moves are the mechanism's calls
-pub use Rattle.advance.proofs.Recommendations.{enacted-run, enacted-preempt, next-run-accepted, next-preempt-accepted, next-lowest}
+pub use Rattle.advance.proofs.Recommendations.{enacted-run, enacted-preempt, next-run-accepted, next-preempt-accepted, next-placed}

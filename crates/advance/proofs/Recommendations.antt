@@ -1,12 +1,12 @@
 -- What `next` recommends is done: the mechanism's own calls accept it, and do what an advance does of it. Assumes nothing.
-use Prim.Native.Nat.{ℕ, _/_, _%_, _≤_}
-use mathlib.Core.Bool.{Bool, true, false, cond}
-use mathlib.Core.Path.{_≡_, refl, sym, _∙_, ap, subst}
+use Prim.Native.Nat.{ℕ, _/_, _%_}
+use mathlib.Core.Bool.{Bool, true, false}
+use mathlib.Core.Path.{_≡_, refl, sym, _∙_, ap}
 use native.Mathlib.Omega.{arith}
 use borrow.Author.Tests.{lt-ltb}
 use Rattle.scan.specs.Booleans.{zero-one}
 use Rattle.system.specs.declared.System.{System}
-use Rattle.system.specs.declared.Answer.the-variants.{Done, Unsound}
+use Rattle.system.specs.declared.Answer.the-variants.{Done}
 use Rattle.system.specs.Answers.{told, SystemOutcome}
 use Rattle.system.specs.Slots.{pcpus, slot, Present, slot-of}
 use Rattle.verdict.specs.Violations.{invariantsHold}
@@ -23,8 +23,9 @@ use Rattle.changes.specs.Changes.{reaches}
 use Rattle.advance.specs.declared.Decision.{Decision}
 use Rattle.advance.specs.declared.Decision.the-variants as decision
 use Rattle.rules.specs.Choices.{choice}
-use Rattle.advance.specs.Advance.{named, NextOutcome, next}
-use Rattle.rules.specs.ChoiceLaws.{choice-run, choice-lowest, choice-preempt}
+use Rattle.advance.specs.Advance.{named, recommended, next}
+use Rattle.advance.specs.BackToLast.{Placed}
+use Rattle.rules.specs.ChoiceLaws.{choice-run, choice-back, choice-lowest, choice-preempt}
 use Rattle.rules.proofs.Laws.{run-enacted, preempt-enacted}
 use Rattle.advance.specs.ServiceRule.{ruleOf}
 
@@ -52,7 +53,7 @@ module _ (s : System) (π : Scheduler) (now : ℕ) where
   decided D n e = go (invariantsHold s) refl e
     where
       go : (b : Bool) → invariantsHold s ≡ b
-          → (cond {A = NextOutcome} b (record { number = told Done; decision = named (choice s (ruleOf π) now) }) (record { number = told Unsound; decision = decision.Idle })) .decision ≡ D
+          → (recommended b (choice s (ruleOf π) now)) .decision ≡ D
           → Sound s × (named (choice s (ruleOf π) now) ≡ D)
       go true h f = (sound-iff s .0 h, f)
       go false h f = absurd (n (sym f))
@@ -88,18 +89,24 @@ module _ (s : System) (π : Scheduler) (now : ℕ) where
       go S (Run i q) f h = absurd (zero-one cc)
       go S Rest f h = absurd (zero-one cc)
 
-  -- a Run that is recommended is onto the lowest-numbered pCPU that its vCPU may be dispatched onto
-  pub next-lowest : (d v p q : ℕ) → (next s π now) .decision ≡ decision.Run d v p → CanRun s (slot d v) q → p ≤ q
-  next-lowest d v p q e can =
+  -- where a Run that is recommended goes
+  pub next-placed : (d v p : ℕ) → (next s π now) .decision ≡ decision.Run d v p → Placed s (slot d v) p
+  next-placed d v p e =
       let x = decided (decision.Run d v p) (λ f. zero-one cc) e in
       go (choice s (ruleOf π) now) refl (x .1)
     where
-      go : (c : Choice) → choice s (ruleOf π) now ≡ c → named c ≡ decision.Run d v p → p ≤ q
+      go : (c : Choice) → choice s (ruleOf π) now ≡ c → named c ≡ decision.Run d v p → Placed s (slot d v) p
       go (Run i r) f h =
           let a : i / 8 ≡ d = cc in
           let b : i % 8 ≡ v = cc in
           let k : r ≡ p = cc in
-          let j : slot d v ≡ i = omega arith in
-          rw (← k) (choice-lowest s (ruleOf π) now i r q f (subst (λ (n : ℕ). CanRun s n q) j can))
+          let j : i ≡ slot d v = omega arith in
+          let c = choice-run s (ruleOf π) now i r f in
+          rw (← j, ← k)
+          (record {
+            can = c;
+            back = choice-back s (ruleOf π) now i r f;
+            lowest = λ n q. choice-lowest s (ruleOf π) now i r q f n;
+          })
       go (Preempt i r) f h = absurd (zero-one cc)
       go Rest f h = absurd (zero-one cc)

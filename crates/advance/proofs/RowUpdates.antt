@@ -22,7 +22,8 @@ use Rattle.moves.specs.declared.Choice.the-variants.{Run, Preempt, Rest}
 use Rattle.moves.specs.Table.{rowAt}
 use Rattle.rules.specs.Rules.{Rule}
 use Rattle.rules.specs.Steady.{CanMove, run, preempt, Steady}
-use Rattle.advance.specs.Internal.{kindOf, offIn, offPcpu, Row, Rows, slotIn, ontoIn, recordAfter, occupantAfter}
+use Rattle.moves.specs.BackToLast.{slotIn}
+use Rattle.advance.specs.Internal.{kindOf, offIn, offPcpu, Row, Rows, ontoIn, recordAfter, occupantAfter}
 use Rattle.advance.proofs.RowStores.{row-here}
 use Rattle.advance.specs.Internal.{setRow}
 use Rattle.advance.proofs.Rows.{row-kept}

@@ -1,6 +1,7 @@
--- The table of standings as the code keeps it, and the set of idle pCPUs: a decision over these is the choice. Assumes nothing.
-use Prim.Native.Nat.{ℕ, _+_, _-_, _*_, _/_, _%_, _<_, min}
-use mathlib.Core.Bool.{Bool, true, false, cond, not, _&&_, false≢true}
+-- The table of standings as the code keeps it, and the set of idle pCPUs: a decision over these, with whoever is dispatched put back,
+-- is the choice. Assumes nothing.
+use Prim.Native.Nat.{ℕ, _+_, _-_, _*_, _/_, _%_, _≤_, _<_, min}
+use mathlib.Core.Bool.{Bool, true, false, cond, not, _&&_, false≢true, and-false}
 use mathlib.Core.Path.{_≡_, refl, sym, _∙_, ap, ap₂}
 use mathlib.Core.List.{List, [], _∷_}
 use mathlib.Core.Logic.{_≢_}
@@ -11,6 +12,7 @@ use lib.ListN.{length, getD, set}
 use lib.Seq.{getD-set-same, getD-set-other}
 use borrow.Author.Tests.{lt-ltb, le-leb, ne-eqb}
 use Rattle.scan.specs.Booleans.{both}
+use Rattle.masks.specs.Masks.{bit, permits}
 use Rattle.masks.specs.Sets.{setOf-permits}
 use Rattle.service.specs.Service.{value, held}
 use Rattle.service.specs.Laws.{value-held}
@@ -23,17 +25,21 @@ use Rattle.system.specs.Reads.{vcpuAt, idleAt}
 use Rattle.system.specs.Slots.{vcpus, Present, slots, present, is-present}
 use Rattle.system.specs.States.{onto, isRunnable}
 use Rattle.verdict.specs.Sound.{Sound}
-use Rattle.moves.specs.Decide.{Standings, decide}
+use Rattle.moves.specs.declared.Choice.{Choice}
+use Rattle.moves.specs.Decide.{Standings, usable, decide, cold}
+use Rattle.moves.specs.declared.Choice.the-variants.{Run, Preempt, Rest}
+use Rattle.moves.specs.DecideLaws.{run-fits, preempt-beaten}
+use Rattle.moves.specs.BackToLast.{slotIn, decide-back}
 use Rattle.moves.specs.Table.{tabled}
 use Rattle.moves.proofs.Laws.{Alike, decide-cong}
 use Rattle.policy.specs.declared.Scheduler.{Scheduler}
 use Rattle.policy.specs.Accounts.{offsetOf}
 use Rattle.policy.specs.Standing.{serviceBy}
 use Rattle.rules.specs.Rules.{Rule}
-use Rattle.rules.specs.Choices.{isExpired, standings, choice}
+use Rattle.rules.specs.Choices.{isExpired, standings, choice, coldChoice}
 use Rattle.advance.proofs.RowStores.{row-there, row-here, limbs-same}
 use Rattle.advance.specs.Internal.{setRow}
-use Rattle.advance.specs.Internal.{kindIn, kindOf, offPcpu, Row, Rows, Tabulates, idleSet}
+use Rattle.advance.specs.Internal.{kindIn, kindOf, offPcpu, Row, Rows, Tabulates, idleSet, putBack}
 
 -- ---- a kind tells who waits and who is expired
 
@@ -98,7 +104,7 @@ module _ {s : System} {ρ : Rule} {now : ℕ} {kind mask service left weight : L
   unfolding tabled standings idleSet
   idle-same p l = setOf-permits (λ q. idleAt s q) 64 p (omega arith) ∙ rw (lt-ltb p 64 l)
 
-  rows-alike : Alike t (standings s ρ now) (slots s)
+  rows-alike : Alike t (cold (standings s ρ now)) (slots s)
   unfolding tabled standings
   rows-alike =
       record {
@@ -106,20 +112,52 @@ module _ {s : System} {ρ : Rule} {now : ℕ} {kind mask service left weight : L
         expired = expired-same;
         on = on-same;
         mask = λ i l w. R i l .mask;
+        last = λ i l w. refl;
         beats = λ i j l m x y. rw (R i l .service, R j m .service, R i l .weight, R j m .weight);
         idle = idle-same;
       }
 
-  pub decides-choice : decide (tabled kind mask service weight (idleSet s)) (slots s) ≡ choice s ρ now
-  unfolding choice
-  decides-choice = decide-cong rows-alike
+  -- by the rule that the Rust decides by
+  decides-cold : decide t (slots s) ≡ coldChoice s ρ now
+  unfolding coldChoice
+  decides-cold = decide-cong rows-alike
+
+  -- what a slot may use is what the idle set and its row have
+  free-same : (i : ℕ) → i < slots s → (p : ℕ) → (permits (idleSet s) p && permits (getD mask i 0) p) ≡ usable (standings s ρ now) i p
+  unfolding standings idleSet
+  free-same i l p =
+      ap₂ (λ (b : Bool) (m : ℕ). b && permits m p) (setOf-permits (λ q. idleAt s q) 64 p (omega arith)) (R i l .mask)
+      ∙ once (ltb p 64) (idleAt s p) (bit ((vcpuAt s i) .affinity) p)
+    where
+      once : (w a b : Bool) → ((w && a) && (w && b)) ≡ (a && (w && b))
+      once true a b = refl
+      once false a b = sym (and-false a)
+
+  -- with whoever is dispatched put back, it is the choice
+  pub decides-choice : putBack s mask (idleSet s) (decide (tabled kind mask service weight (idleSet s)) (slots s)) ≡ choice s ρ now
+  unfolding choice coldChoice standings
+  decides-choice =
+      let c = decide t (slots s) in
+      sym
+      (decide-back (standings s ρ now) (slots s) (idleSet s) (getD mask (slotIn c) 0) c (sym decides-cold)
+      (λ i p e q.
+      ap (λ (d : Choice). permits (idleSet s) q && permits (getD mask (slotIn d) 0) q) e ∙ free-same i (run-fits t (slots s) i p e .0) q))
 
 -- the same, of a table and a count as the code has them
 pub table-decides : (s : System) (ρ : Rule) (now : ℕ) {k m t l w : List ℕ} → Sound s → Tabulates s ρ now k m t l w
-    → decide (tabled k m t w (idleSet s)) (min (s .«domain_count» * 8) 128) ≡ choice s ρ now
+    → putBack s m (idleSet s) (decide (tabled k m t w (idleSet s)) (min (s .«domain_count» * 8) 128)) ≡ choice s ρ now
 table-decides s ρ now {k} {m} {t} {l} {w} S R =
     let e : min (s .«domain_count» * 8) 128 ≡ slots s = omega (arith, S .domains) in
-    ap (decide (tabled k m t w (idleSet s))) e ∙ decides-choice S (R .rows)
+    ap (λ (n : ℕ). putBack s m (idleSet s) (decide (tabled k m t w (idleSet s)) n)) e ∙ decides-choice S (R .rows)
+
+-- the slot of a decision over at most 128 is one of the table's
+pub slot-decided : (t : Standings) (n : ℕ) → n ≤ 128 → slotIn (decide t n) < 128
+slot-decided t n l = go (decide t n) refl
+  where
+    go : (c : Choice) → decide t n ≡ c → slotIn c < 128
+    go (Run i p) e = omega (arith, run-fits t n i p e .0)
+    go (Preempt i p) e = omega (arith, preempt-beaten t n i p e .below)
+    go Rest e = omega arith
 
 -- ---- stores into the rows
 

@@ -28,9 +28,10 @@ use Rattle.advance.specs.Internal.{setRow}
 use Rattle.rules.specs.Steady.{Steady}
 use Rattle.rules.specs.ChoiceLaws.{choice-unbarred, choice-preempt}
 use Rattle.advance.proofs.Rows.{decides-choice}
-use Rattle.advance.specs.Internal.{kindOf, Rows, Settleable, idleSet}
+use Rattle.advance.specs.Internal.{kindOf, Rows, Settleable, idleSet, putBack}
 use Rattle.advance.proofs.SettleMoves.{moved, Moves, choice-can, can-moves, moves-wrote, Shifts, idle-shifts}
-use Rattle.advance.specs.Internal.{isRest, slotIn, ontoIn, recordAfter, occupantAfter, cleared, freed}
+use Rattle.moves.specs.BackToLast.{slotIn}
+use Rattle.advance.specs.Internal.{isRest, ontoIn, recordAfter, occupantAfter, cleared, freed}
 use Rattle.advance.proofs.SettleMoves.{Onward, onward-start, onward-more, onward-rest, onward-out}
 use Rattle.advance.proofs.RowUpdates.{rows-moved}
 use Rattle.advance.specs.Internal.{Settles}
@@ -70,12 +71,12 @@ module _ {ρ : Rule} {now : ℕ} {s₀ : System} {k m t l w : List ℕ} where
     same-slots : slots s₀ ≡ slots s
     same-slots = ap (λ (d : ℕ). min d 16 * 8) (sym (G .domains))
 
-    -- a decision over the table is the choice
-    pub going-decides : (e : ℕ) → e ≡ s₀ .«domain_count» * 8 → decide (tabled k m t w idle) (min e 128) ≡ choice s ρ now
+    -- a decision over the table, with whoever is dispatched put back, is the choice
+    pub going-decides : (e : ℕ) → e ≡ s₀ .«domain_count» * 8 → putBack s m idle (decide (tabled k m t w idle) (min e 128)) ≡ choice s ρ now
     going-decides e h =
         let d = G .domains in
         let x : min e 128 ≡ slots s = omega (arith, G .sound .domains) in
-        ap₂ (λ (i : ℕ) (a : ℕ). decide (tabled k m t w i) a) (G .idles) x
+        ap₂ (λ (i : ℕ) (a : ℕ). putBack s m i (decide (tabled k m t w i) a)) (G .idles) x
         ∙ decides-choice (G .sound) (subst (Rows s ρ now k m t l w) same-slots (G .rows))
 
     pub going-moves : (c : Choice) → choice s ρ now ≡ c → isRest c ≡ false → Moves s now c

@@ -29,7 +29,8 @@ use Rattle.rules.specs.ChoiceLaws.{choice-run, choice-preempt}
 use Rattle.rules.specs.Steady.{CanMove, run, preempt}
 use Rattle.rules.proofs.Laws.{run-enacted, run-keeps, preempt-enacted, preempt-keeps}
 use Rattle.advance.specs.Internal.{idleSet}
-use Rattle.advance.specs.Internal.{isRest, slotIn, ontoIn, recordAfter, occupantAfter, namedAs, cleared, freed, Settles}
+use Rattle.moves.specs.BackToLast.{slotIn}
+use Rattle.advance.specs.Internal.{isRest, ontoIn, recordAfter, occupantAfter, namedAs, cleared, freed, Settles}
 
 -- the system after a choice
 abbrev pub moved : System → ℕ → Choice → System

@@ -1,6 +1,6 @@
 -- `next` and `advance`.
 use Prim.Native.Nat.{ℕ, _/_, _%_}
-use mathlib.Core.Bool.{cond}
+use mathlib.Core.Bool.{Bool, cond}
 use mathlib.Core.List.{List, []}
 use Rattle.system.specs.declared.System.{System}
 use Rattle.system.specs.declared.Answer.the-variants.{Done, Unsound}
@@ -27,10 +27,13 @@ pub record NextOutcome : Type 0 where
   pub number : ℕ
   pub decision : Decision
 
+-- c, of a sound system; of any other 8 and Idle
+abbrev pub recommended : Bool → Choice → NextOutcome
+recommended sound c =
+    cond sound (record { number = told Done; decision = named c }) (record { number = told Unsound; decision = decision.Idle })
+
 unfoldable pub next : System → Scheduler → ℕ → NextOutcome
-next s π now =
-    cond (invariantsHold s) (record { number = told Done; decision = named (choice s (ruleOf π) now) })
-    (record { number = told Unsound; decision = decision.Idle })
+next s π now = recommended (invariantsHold s) (choice s (ruleOf π) now)
 
 -- what an advance is told, and what it leaves; the count that it answers is the number of moves
 pub record Advance : Type 0 where

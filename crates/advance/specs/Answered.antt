@@ -10,7 +10,7 @@ use Rattle.verdict.specs.Violations.{invariantsHold}
 use Rattle.policy.specs.declared.Scheduler.{Scheduler}
 use Rattle.rules.specs.Choices.{choice}
 use Rattle.advance.specs.declared.Decision.the-variants as decision
-use Rattle.advance.specs.Advance.{named, NextOutcome, next, Advance, soundAdvance, advance}
+use Rattle.advance.specs.Advance.{NextOutcome, recommended, next, Advance, soundAdvance, advance}
 use Rattle.advance.specs.ServiceRule.{ruleOf}
 
 -- what a number says of the system: 0 that it is sound, 8 that it is not; no other is told
@@ -27,9 +27,7 @@ pub next-answered : (s : System) (π : Scheduler) (now : ℕ) → NextAnswered s
 unfolding next
 next-answered s π now = go (invariantsHold s) refl
   where
-    go : (b : Bool) → invariantsHold s ≡ b
-        → NextAnswered s (cond b (record { number = told Done; decision = named (choice s (ruleOf π) now) })
-        (record { number = told Unsound; decision = decision.Idle }))
+    go : (b : Bool) → invariantsHold s ≡ b → NextAnswered s (recommended b (choice s (ruleOf π) now))
     go true e =
         record {
           tells = record { sound = λ f. refl; unsound = λ f. absurd (true≢false (sym e ∙ f)) };

@@ -9,8 +9,8 @@ use Rattle.system.specs.Writes.{putVcpu, putOccupant}
 use Rattle.verdict.specs.Violations.{slotViolation, pcpuViolation, earliest, firstViolation, invariantsHold}
 use Rattle.changes.specs.Records.{dispatched, left}
 use Rattle.sched.specs.Steps.{applied, requested, offlineFirst, offlineAll}
-use Rattle.moves.specs.Decide.{decide, chosen, victim, placement, placeable, beaten, loses}
-use Rattle.rules.specs.Choices.{standings, choice}
+use Rattle.moves.specs.Decide.{decide, chosen, victim, firstIdlePcpuFor, placement, placeable, beaten, loses}
+use Rattle.rules.specs.Choices.{standings, choice, coldChoice}
 use Rattle.rules.specs.Settle.{enacted, settle}
 use Rattle.policy.specs.Accounts.{accountAt, accountOf, putAccount, freshPolicy, setWeight, setWakeBoost}
 use Rattle.policy.specs.Standing.{serviceBy, deserves}
@@ -18,8 +18,8 @@ use Rattle.policy.specs.Accounting.{floor, renewed, renewFirst, accounted}
 use Rattle.advance.specs.Advance.{next, advance}
 
 unfoldable pub computing : Type 0
-unfolding scan first value limbs held moreDeserving inFlight vcpuAt occupantAt fresh putVcpu putOccupant slotViolation pcpuViolation
-    earliest firstViolation invariantsHold dispatched left applied requested offlineFirst offlineAll decide chosen victim placement
-    placeable beaten loses standings choice enacted settle accountAt accountOf putAccount freshPolicy setWeight setWakeBoost serviceBy
-    deserves floor renewed renewFirst accounted next advance
+unfolding scan first value limbs held moreDeserving inFlight vcpuAt occupantAt fresh putVcpu putOccupant slotViolation
+    pcpuViolation earliest firstViolation invariantsHold dispatched left applied requested offlineFirst offlineAll decide chosen
+    victim firstIdlePcpuFor placement placeable beaten loses standings choice coldChoice enacted settle accountAt accountOf
+    putAccount freshPolicy setWeight setWakeBoost serviceBy deserves floor renewed renewFirst accounted next advance
 computing = Unit {0}

@@ -1,9 +1,9 @@
 -- What the crate's own functions say: the table of standings as the code keeps it, what a choice moves, and settling.
-use Prim.Native.Nat.{ℕ, _+_, _*_, _/_, _%_, _<_}
-use mathlib.Core.Bool.{Bool, true, false, cond}
-use mathlib.Core.Path.{_≡_}
+use Prim.Native.Nat.{ℕ, _+_, _*_, _/_, _%_, _<_, min}
+use mathlib.Core.Bool.{Bool, true, false, cond, _&&_}
+use mathlib.Core.Path.{_≡_, refl}
 use mathlib.Core.List.{List}
-use lib.Dec.{leb}
+use lib.Dec.{ltb, leb}
 use lib.ListN.{length, getD, set}
 use Rattle.masks.specs.Masks.{pcpuBit}
 use Rattle.masks.specs.Sets.{setOf}
@@ -15,12 +15,15 @@ use Rattle.system.specs.declared.Occupant.{Occupant}
 use Rattle.system.specs.declared.Occupant.the-variants.{Idle, Vcpu}
 use Rattle.system.specs.declared.System.{System}
 use Rattle.system.specs.Records.{elapsed}
-use Rattle.system.specs.Reads.{vcpuAt, idleAt}
+use Rattle.system.specs.declared.PhysicalCpu.{PhysicalCpu}
+use Rattle.system.specs.Shape.{idle}
+use Rattle.system.specs.Reads.{vcpuAt, occupantAt, lastAt, isIdle, idleAt}
 use Rattle.system.specs.Slots.{Present, slots, present}
 use Rattle.system.specs.States.{whileRunning}
 use Rattle.changes.specs.Records.{dispatched, left}
 use Rattle.moves.specs.declared.Choice.{Choice}
 use Rattle.moves.specs.declared.Choice.the-variants.{Run, Preempt, Rest}
+use Rattle.moves.specs.BackToLast.{backTo, slotIn}
 use Rattle.moves.specs.Table.{rowAt}
 use Rattle.rules.specs.Settle.{settle}
 use Rattle.advance.specs.declared.Decision.{Decision}
@@ -68,9 +71,22 @@ pub record Tabulates (s : System) (ρ : Rule) (now : ℕ) (k m t l w : List ℕ)
   pub kinds : length k ≡ 128
   pub services : length t ≡ 512
 
+-- pCPU p is one of the first m of a table, and nobody holds it
+abbrev pub idleIn : List PhysicalCpu → ℕ → ℕ → Bool
+idleIn held m p = ltb p (min m 64) && isIdle ((getD held p idle) .occupant)
+
 -- the set of idle pCPUs
 unfoldable pub idleSet : System → ℕ
 idleSet s = setOf (λ p. idleAt s p) 64
+
+-- by the table and the count of a system
+pub idle-set-is : (s : System) → setOf (idleIn (s .pcpus) (s .«pcpu_count»)) 64 ≡ idleSet s
+unfolding idleSet occupantAt
+idle-set-is s = refl
+
+-- a choice over the table, with whoever is dispatched put back onto the pCPU that it was last on, where that is idle and admitted
+abbrev pub putBack : System → List ℕ → ℕ → Choice → Choice
+putBack s mask idle c = backTo idle (getD mask (slotIn c) 0) (lastAt s (slotIn c)) c
 
 -- ---- what a choice moves
 
@@ -78,11 +94,6 @@ abbrev pub isRest : Choice → Bool
 isRest (Run i p) = false
 isRest (Preempt i p) = false
 isRest Rest = true
-
-abbrev pub slotIn : Choice → ℕ
-slotIn (Run i p) = i
-slotIn (Preempt i p) = i
-slotIn Rest = 0
 
 abbrev pub ontoIn : Choice → ℕ
 ontoIn (Run i p) = p

@@ -67,7 +67,7 @@ module _ (s : System) (π : Scheduler) (now : ℕ) (U : Unheld s π now (Preempt
 -- ---- an example: two wait for one pCPU, with services 2^100 and 1 at weights 2^30 and 1
 
 abbrev waiting : VirtualCpu
-waiting = record { state = Runnable; runtime = 0; «dispatched_at» = 0; affinity = 1 }
+waiting = record { state = Runnable; runtime = 0; «dispatched_at» = 0; affinity = 1; last = 64 }
 
 abbrev two : System
 two = putVcpu (putVcpu (fresh 1 2 1) 0 waiting) 1 waiting

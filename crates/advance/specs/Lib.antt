@@ -2,6 +2,7 @@ pub mod ServiceRule
 pub mod Advance
 pub mod Outcomes
 pub mod Answered
+pub mod BackToLast
 pub mod Enacting
 pub mod Least
 pub mod Internal

@@ -21,6 +21,7 @@ use Rattle.policy.specs.Accounts.{noOffset, offsetOf, wasSchedulable, putAccoun
 use Rattle.advance.specs.declared.Decision.{Decision}
 use Rattle.advance.specs.declared.Decision.the-variants as decision
 use Rattle.advance.specs.Advance.{next, Advance, advance}
+use Rattle.advance.specs.BackToLast.{coldNext}
 use Rattle.advance.specs.Outcomes.{counted}
 use Rattle.advance.specs.Computing.{computing}
 
@@ -59,7 +60,7 @@ read r =
 -- ---- one pCPU, two vCPUs, slice 10; 0/0 as it is said, 0/1 waits
 
 abbrev vcpu : RunState → ℕ → VirtualCpu
-vcpu st since = record { state = st; runtime = 0; «dispatched_at» = since; affinity = 1 }
+vcpu st since = record { state = st; runtime = 0; «dispatched_at» = since; affinity = 1; last = 64 }
 
 abbrev account : Bool → Account
 account was = record { weight = 256; offset = noOffset; «was_schedulable» = was }
@@ -87,7 +88,7 @@ advanced h now = read (advance (h .system) (h .policy) now)
 -- ---- two pCPUs, four vCPUs, slice 0
 
 abbrev ran : ℕ → RunState → ℕ → VirtualCpu
-ran time st mask = record { state = st; runtime = time; «dispatched_at» = 0; affinity = mask }
+ran time st mask = record { state = st; runtime = time; «dispatched_at» = 0; affinity = mask; last = 64 }
 
 -- 0/0 waits for pCPU 1 and 0/1 for pCPU 0; they ran for 2 and 0
 abbrev pinned : System
@@ -101,6 +102,11 @@ crossed =
           putOccupant (putOccupant (putVcpu (putVcpu pinned 2 (ran 1 (Running 0) 3)) 3 (ran 3 (Running 1) 3)) 0 (Vcpu 0 2)) 1 (Vcpu 0 3);
       policy = freshPolicy 1 4 0;
     }
+
+-- ---- two pCPUs, both idle, and one vCPU that waits: it was last on pCPU 1
+
+abbrev away : System
+away = putVcpu (fresh 1 1 2) 0 (record { state = Runnable; runtime = 0; «dispatched_at» = 0; affinity = 3; last = 1 })
 
 abbrev pub table : List Row
 table =
@@ -117,8 +123,12 @@ table =
     (off 0 3 1 ++ onto 0 0 1 ++ off 0 2 0 ++ onto 0 1 0 ++ off 0 0 1 ++ onto 0 2 1)
     -- `next` says the domain and the vCPU: of 2 domains of 4 vCPUs on 3 pCPUs 1/3 alone waits, and its mask admits pCPU 0
     ∷ rows (decided ((next (putVcpu (fresh 2 4 3) 11 (vcpu Runnable 0)) (freshPolicy 2 4 10) 0) .decision)) (onto 1 3 0)
+    -- back onto pCPU 1, by `next` and by an advance; upstream says pCPU 0
+    ∷ rows (decided ((next away (freshPolicy 1 1 10) 0) .decision)) (onto 0 0 1)
+    ∷ rows (moved ((advance away (freshPolicy 1 1 10) 0) .moves)) (onto 0 0 1)
+    ∷ rows (decided ((coldNext away (freshPolicy 1 1 10) 0) .decision)) (onto 0 0 0)
     ∷ []
 
 pub rows-due : AllDue table
-unfolding computing
+unfolding computing coldNext
 rows-due = refl

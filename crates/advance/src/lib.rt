@@ -4,6 +4,8 @@ ghost use mathlib.Core.Path.{_≡_};
 ghost use mathlib.Core.Bool.{true, false};
 ghost use Prim.Native.Nat.{_+_, _*_, _^_, _≤_, _<_, min};
 ghost use Rattle.verdict.specs.Violations.{invariantsHold};
+ghost use Rattle.masks.specs.Sets.{setOf};
+ghost use Rattle.moves.specs.BackToLast.{slotIn};
 ghost use Rattle.moves.specs.Decide.{decide};
 ghost use Rattle.moves.specs.Table.{rowAt, tabled};
 ghost use Rattle.service.specs.Service.{held};
@@ -11,8 +13,8 @@ ghost use Rattle.policy.specs.Standing.{serviceOf};
 ghost use Rattle.rules.specs.Settle.{limit};
 ghost use Rattle.advance.specs.Advance.{next, advance};
 ghost use Rattle.advance.specs.Outcomes.{nextOutcome, advanceOutcome, counted};
-ghost use Rattle.advance.specs.Internal.{kindOf, offPcpu, setRow, Tabulates, idleSet};
-ghost use Rattle.advance.specs.Internal.{namedAs, slotIn, ontoIn, recordAfter, occupantAfter, cleared, freed, isRest, Settleable, SomeRule, EachRule, Settles};
+ghost use Rattle.advance.specs.Internal.{kindOf, offPcpu, setRow, Tabulates, idleIn, idleSet, putBack};
+ghost use Rattle.advance.specs.Internal.{namedAs, ontoIn, recordAfter, occupantAfter, cleared, freed, isRest, Settleable, SomeRule, EachRule, Settles};
 ghost use Rattle.advance.specs.ServiceRule.{ruleOf};
 use moves::Choice;
 use policy::Account;
@@ -162,15 +164,15 @@ fn tabulate(s: System, p: Scheduler, now: Ticks) -> Table
     }
 }
 
-// The set of idle pCPUs.
-fn idle_set(s: System) -> u64
-    ensures { λ r. ⌜ r ≡ idleSet s ⌝ }
+// The set of idle pCPUs, of a table and a count: the whole system would be copied.
+fn idle_set(pcpus: [PhysicalCpu; 64], pcpu_count: usize) -> u64
+    ensures { λ r. ⌜ r ≡ setOf (idleIn pcpus «pcpu_count») 64 ⌝ }
 {
-    let n = least(s.pcpu_count, system::MAX_PCPUS);
+    let n = least(pcpu_count, system::MAX_PCPUS);
     let mut set: u64 = 0;
     let mut q: usize = 0;
     while q < n {
-        let c = s.pcpus[q];
+        let c = pcpus[q];
         let o = c.occupant;
         if is_idle(o) {
             set = set + masks::pcpu_bit(q as u32);
@@ -273,37 +275,37 @@ fn most_moves(domain_count: usize, vcpus_per_domain: usize, pcpu_count: usize) -
     d * v + 2 * p + 1
 }
 
-// Decides and enacts until there is nothing to do, under whatever rule the table is of. The table
-// follows each move, so that only the slot that moved is looked at again.
-fn settle(s: System, slice: Ticks, t: Table, now: Ticks) -> Settled
+// Decides and enacts until there is nothing to do, under whatever rule the table is of. A vCPU that is
+// dispatched is put back where it was last; the table follows each move, so that only the slot that
+// moved is looked at again.
+fn settle(s: System, slice: Ticks, mut t: Table, now: Ticks) -> Settled
     requires { ⌜ invariantsHold s ≡ true ⌝ }
     requires { ⌜ SomeRule (Settleable s slice now (t .kind) (t .mask) (t .service) (t .left) (t .weight)) ⌝ }
     ensures { λ r. ⌜ EachRule (Settleable s slice now (t .kind) (t .mask) (t .service) (t .left) (t .weight)) (λ ρ. Settles ρ now (limit s) s (r .system) (r .count)) ⌝ }
 {
     let n = s.domain_count * 8;
     let most = most_moves(s.domain_count, s.vcpus_per_domain, s.pcpu_count);
-    let mut kind = t.kind;
-    let mask = t.mask;
-    let mut service = t.service;
-    let left = t.left;
-    let weight = t.weight;
-    let mut idle = idle_set(s);
+    let pcpus = s.pcpus;
+    let mut idle = idle_set(pcpus, s.pcpu_count);
     let mut system = s;
     let mut count: usize = 0;
     while count < most {
-        let c = moves::decide(&kind, &mask, &service, &weight, n, idle);
-        if rests(c) {
+        let cold = moves::decide(&t.kind, &t.mask, &t.service, &t.weight, n, idle);
+        if rests(cold) {
             return Settled { system, count };
         }
-        let i = slot_in(c);
+        let i = slot_in(cold);
+        let u = system.vcpus[i];
+        let c = moves::back_to_last(cold, idle, t.mask[i], u.last);
         let q = onto_in(c) as usize;
-        let v = record_after(c, system.vcpus[i], now);
+        let v = record_after(c, u, now);
         system.vcpus[i] = v;
         system.pcpus[q] = PhysicalCpu {
             occupant: occupant_after(c),
         };
-        kind[i] = kind_of(v, true, slice, now);
-        put_row(&mut service, i, row_at(&left, i));
+        t.kind[i] = kind_of(v, true, slice, now);
+        let row = row_at(&t.left, i);
+        put_row(&mut t.service, i, row);
         idle = idle - cleared(c) + freed(c);
         count += 1;
     }
@@ -329,23 +331,24 @@ fn named(c: Choice) -> Decision
     }
 }
 
-// The choice over a table.
+// The choice over a table, a vCPU that is dispatched put back where it was last.
 fn choose(s: System, t: Table) -> Choice
     requires { ⌜ s .«domain_count» ≤ 16 ⌝ }
-    ensures { λ r. ⌜ r ≡ decide (tabled (t .kind) (t .mask) (t .service) (t .weight) (idleSet s)) (min (s .«domain_count» * 8) 128) ⌝ }
+    ensures { λ r. ⌜ r ≡ putBack s (t .mask) (idleSet s) (decide (tabled (t .kind) (t .mask) (t .service) (t .weight) (idleSet s)) (min (s .«domain_count» * 8) 128)) ⌝ }
 {
-    let kind = t.kind;
-    let mask = t.mask;
-    let service = t.service;
-    let weight = t.weight;
-    moves::decide(
-        &kind,
-        &mask,
-        &service,
-        &weight,
+    let pcpus = s.pcpus;
+    let idle = idle_set(pcpus, s.pcpu_count);
+    let cold = moves::decide(
+        &t.kind,
+        &t.mask,
+        &t.service,
+        &t.weight,
         s.domain_count * 8,
-        idle_set(s),
-    )
+        idle,
+    );
+    let i = slot_in(cold);
+    let v = s.vcpus[i];
+    moves::back_to_last(cold, idle, t.mask[i], v.last)
 }
 
 /// What to do next: dispatch a vCPU that waits onto an idle pCPU, else preempt one, else nothing.

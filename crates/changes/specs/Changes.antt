@@ -18,7 +18,7 @@ use Rattle.changes.specs.declared.Request.{Request}
 use Rattle.changes.specs.declared.Change.{Change}
 use Rattle.changes.specs.declared.Change.the-variants.{Refuse, Write, Enter, Leave}
 use Rattle.changes.specs.declared.After.{After}
-use Rattle.changes.specs.Records.{withState, dispatched, left}
+use Rattle.changes.specs.Records.{withState, dispatched, left, forgotten}
 
 -- what is told of a vCPU found in a state that the call does not accept
 abbrev pub foundIn : RunState → Answer
@@ -69,12 +69,12 @@ masked v m Runnable = Write (withMask v m)
 masked v m (Running p) = cond (permits m p) (Write (withMask v m)) (Refuse NotAffine)
 masked v m Blocked = Write (withMask v m)
 
--- offline: of one not Offline; the mask is filled again, the run time kept
+-- offline: of one not Offline; the mask is filled again, no pCPU is the last, the run time is kept
 abbrev pub offlined : VirtualCpu → ℕ → ℕ → RunState → Change
 offlined v full now Offline = Refuse (foundIn Offline)
-offlined v full now Runnable = Write (withMask (withState v Offline) full)
-offlined v full now (Running p) = Leave (withMask (left v Offline now) full) p
-offlined v full now Blocked = Write (withMask (withState v Offline) full)
+offlined v full now Runnable = Write (forgotten (withState v Offline) full)
+offlined v full now (Running p) = Leave (forgotten (left v Offline now) full) p
+offlined v full now Blocked = Write (forgotten (withState v Offline) full)
 
 -- what a request does to a vCPU whose record is v, on a host whose full mask is given
 abbrev pub changed : Request → ℕ → VirtualCpu → Change

@@ -4,10 +4,11 @@
 ghost use mathlib.Core.Path.{_≡_};
 ghost use Prim.Native.Nat.{_+_, _-_, _^_, min};
 ghost use Rattle.system.specs.Records.{withMask};
-ghost use Rattle.changes.specs.Records.{withState, dispatched, left};
+ghost use Rattle.changes.specs.Records.{withState, dispatched, left, forgotten};
 ghost use Rattle.changes.specs.Changes.{foundIn, admitted, ran, preempted, blocked, woken, masked, offlined};
 ghost use Rattle.changes.specs.Changes.{changed, reaches, pcpuOf, stored};
 use system::Answer;
+use system::NO_PCPU;
 use system::Occupant;
 use system::Pcpu;
 use system::PhysicalCpu;
@@ -45,7 +46,7 @@ fn held_sum(a: u64, b: u64) -> u64
     if b <= u64::MAX - a { a + b } else { u64::MAX }
 }
 
-/// The vCPU put onto a pCPU: its interval opens.
+/// The vCPU put onto a pCPU: its interval opens, and that pCPU is the one that it was last on.
 pub fn dispatched(v: VirtualCpu, pcpu: Pcpu, now: Ticks) -> VirtualCpu
     ensures { λ r. ⌜ r ≡ dispatched v pcpu now ⌝ }
 {
@@ -54,6 +55,7 @@ pub fn dispatched(v: VirtualCpu, pcpu: Pcpu, now: Ticks) -> VirtualCpu
         runtime: v.runtime,
         dispatched_at: now,
         affinity: v.affinity,
+        last: pcpu,
     }
 }
 
@@ -66,6 +68,7 @@ pub fn left(v: VirtualCpu, state: RunState, now: Ticks) -> VirtualCpu
         runtime: held_sum(v.runtime, elapsed(v, now)),
         dispatched_at: v.dispatched_at,
         affinity: v.affinity,
+        last: v.last,
     }
 }
 
@@ -77,6 +80,7 @@ fn with_state(v: VirtualCpu, state: RunState) -> VirtualCpu
         runtime: v.runtime,
         dispatched_at: v.dispatched_at,
         affinity: v.affinity,
+        last: v.last,
     }
 }
 
@@ -85,6 +89,16 @@ fn with_mask(v: VirtualCpu, affinity: u64) -> VirtualCpu
 {
     let mut w = v;
     w.affinity = affinity;
+    w
+}
+
+// A vCPU admitted later carries nothing of its past: every pCPU is admitted, and it was last on none.
+fn forgotten(v: VirtualCpu, full: u64) -> VirtualCpu
+    ensures { λ r. ⌜ r ≡ forgotten v full ⌝ }
+{
+    let mut w = v;
+    w.affinity = full;
+    w.last = NO_PCPU;
     w
 }
 
@@ -188,18 +202,17 @@ fn masked(v: VirtualCpu, mask: u64) -> Change
     }
 }
 
-// The mask is filled again, so that a vCPU admitted later carries no constraint of its past.
 fn offlined(v: VirtualCpu, full: u64, now: Ticks) -> Change
     ensures { λ r. ⌜ r ≡ offlined v full now (v .state) ⌝ }
 {
     let state = v.state;
     match state {
-        RunState::Runnable => Change::Write(with_mask(with_state(v, RunState::Offline), full)),
+        RunState::Runnable => Change::Write(forgotten(with_state(v, RunState::Offline), full)),
         RunState::Running { pcpu } => Change::Leave {
-            vcpu: with_mask(left(v, RunState::Offline, now), full),
+            vcpu: forgotten(left(v, RunState::Offline, now), full),
             pcpu,
         },
-        RunState::Blocked => Change::Write(with_mask(with_state(v, RunState::Offline), full)),
+        RunState::Blocked => Change::Write(forgotten(with_state(v, RunState::Offline), full)),
         RunState::Offline => found_in(state),
     }
 }

@@ -17,11 +17,13 @@ use Rattle.system.specs.Writes.{Tables, Wrote, wrote-vcpu, present-back, presen
 use Rattle.system.specs.Slots.{domains, vcpus, pcpus, slot, Present, slot-below}
 use Rattle.system.specs.States.{schedulable}
 use Rattle.verdict.specs.Sound.{Sound}
+use Rattle.system.specs.Records.{withMask}
 use Rattle.changes.specs.declared.Request.{Request}
 use Rattle.changes.specs.declared.Change.{Change}
 use Rattle.changes.specs.declared.Change.the-variants.{Refuse, Write, Enter, Leave}
 use Rattle.sched.specs.Steps.{changeOf, applied, requested, offlineFirst, offlineAll}
 use Rattle.sched.proofs.Laws.{NotRunning, off-nr, ready-nr, blocked-nr, requested-case, offline-all-case, first-keeps}
+use Rattle.changes.specs.Records.{withState, forgotten}
 use Rattle.changes.specs.Changes.{admitted, blocked, woken, masked, offlined}
 use Rattle.demand3.proofs.ExactRanking.{rawService}
 use Rattle.demand3.proofs.Lag.{Pool, Lag, raw-waiting}
@@ -64,10 +66,10 @@ module _ {full : ℕ} {v : VirtualCpu} (n : New full v) where
   still : {A : Type 0} {p : ℕ} → v .state ≡ Running p → A
   still {A} {p} e = absurd (n .rests p e)
 
-  set : (st : RunState) → NotRunning st → New full (record { state = st; runtime = v .runtime; «dispatched_at» = v .«dispatched_at»; affinity = v .affinity })
+  set : (st : RunState) → NotRunning st → New full (withState v st)
   set st r = record { rests = r; none = n .none; mask = n .mask }
 
-  filled : (st : RunState) → NotRunning st → New full (record { state = st; runtime = v .runtime; «dispatched_at» = v .«dispatched_at»; affinity = full })
+  filled : (st : RunState) → NotRunning st → New full (forgotten (withState v st) full)
   filled st r = record { rests = r; none = n .none; mask = refl }
 
   admitted-stays-unrun : (st : RunState) → v .state ≡ st → StaysUnrun full (admitted v st)
@@ -94,7 +96,7 @@ module _ {full : ℕ} {v : VirtualCpu} (n : New full v) where
   offlined-stays-unrun now (Running p) e = still e
   offlined-stays-unrun now Blocked e = filled Offline off-nr
 
-  refilled : New full (record { state = v .state; runtime = v .runtime; «dispatched_at» = v .«dispatched_at»; affinity = full })
+  refilled : New full (withMask v full)
   refilled = record { rests = n .rests; none = n .none; mask = refl }
 
   masked-stays-unrun : (st : RunState) → v .state ≡ st → StaysUnrun full (masked v full st)

@@ -14,7 +14,7 @@ use Rattle.system.specs.declared.RunState.the-variants.{Offline, Runnable, Runn
 use Rattle.system.specs.declared.VirtualCpu.{VirtualCpu}
 use Rattle.system.specs.declared.System.{System}
 use Rattle.system.specs.Records.{flight, inFlight}
-use Rattle.system.specs.Shape.{offlineVcpu, fresh}
+use Rattle.system.specs.Shape.{noVcpu, fresh}
 use Rattle.system.specs.Shape as shape
 use Rattle.system.specs.Reads.{vcpuAt, stateAt, runtimeAt}
 use Rattle.system.specs.Slots.{pcpus, Present, slot-below}
@@ -86,9 +86,9 @@ module _ (d v p e u q : ℕ) (hd : d ≤ 16) (hv : v ≤ 8) (hp : p ≤ 64) wher
   unfolding fresh vcpuAt
   time-zero j = go (decLt j 128)
     where
-      go : Dec (j < 128) → (getD (replicate 128 (shape.blank p)) j offlineVcpu) .runtime ≡ 0
-      go (yes l) = ap (λ (x : VirtualCpu). x .runtime) (getD-replicate 128 j (shape.blank p) offlineVcpu l)
-      go (no n) = ap (λ (x : VirtualCpu). x .runtime) (List·getD-eq-default (replicate 128 (shape.blank p)) offlineVcpu {n = j} (omega (arith, length-replicate 128 (shape.blank p))))
+      go : Dec (j < 128) → (getD (replicate 128 (shape.blank p)) j noVcpu) .runtime ≡ 0
+      go (yes l) = ap (λ (x : VirtualCpu). x .runtime) (getD-replicate 128 j (shape.blank p) noVcpu l)
+      go (no n) = ap (λ (x : VirtualCpu). x .runtime) (List·getD-eq-default (replicate 128 (shape.blank p)) noVcpu {n = j} (omega (arith, length-replicate 128 (shape.blank p))))
 
   pub fresh-prepared : Prepared (freshHost d v p e u q)
   unfolding fresh freshPolicy value
@@ -124,7 +124,7 @@ module _ {k : Shape} {b : Book} {h : Host} (K : Kept k b h) where
   abbrev s : System
   s = h .system
 
-  exists : {i : ℕ} → PresentIn k i → Present s i
+  pub exists : {i : ℕ} → PresentIn k i → Present s i
   exists e = shaped-present (K .in-step .shaped) (K .in-step .sound) e
 
   pcpus-same : pcpus s ≡ k .pcpus

@@ -48,7 +48,7 @@ shaped-on : {k : Shape} {s s′ : System} → SameShape s s′ → Shaped k s �
 shaped-on x y = record { domains = x .domains ∙ y .domains; vcpus = x .vcpus ∙ y .vcpus; pcpus = x .pcpus ∙ y .pcpus }
 
 -- what keeps the system sound and its lines in agreement keeps it in step
-still-in-step : {k : Shape} {b b′ : Book} {s s′ : System} → InStep k b s → Keeps s s′ → Lines b′ s′ → InStep k b′ s′
+pub still-in-step : {k : Shape} {b b′ : Book} {s s′ : System} → InStep k b s → Keeps s s′ → Lines b′ s′ → InStep k b′ s′
 still-in-step T m L =
     record { tables = m .shape .tables (T .tables); sound = m .sound; shaped = shaped-on (m .shape) (T .shaped); lines = L }
 

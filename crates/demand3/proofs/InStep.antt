@@ -9,7 +9,7 @@ use Rattle.masks.specs.Masks.{fullMask}
 use Rattle.system.specs.declared.Occupant.{Occupant}
 use Rattle.system.specs.declared.System.{System}
 use Rattle.system.specs.declared.Answer.{Answer}
-use Rattle.system.specs.declared.Answer.the-variants.{BadDomain, BadVcpu, BadPcpu, Unsound}
+use Rattle.system.specs.declared.Answer.the-variants.{Done, BadDomain, BadVcpu, BadPcpu, Unsound}
 use Rattle.system.specs.Answers.{told, SystemOutcome}
 use Rattle.system.specs.Reads.{vcpuAt, occupantAt, isIdle, vcpuCount}
 use Rattle.system.specs.Writes.{Tables, present-on}
@@ -17,7 +17,7 @@ use Rattle.system.specs.Slots.{domains, vcpus, pcpus, slot, Present}
 use Rattle.verdict.specs.Sound.{Sound, sound-iff}
 use Rattle.verdict.specs.Violations.{invariantsHold}
 use Rattle.changes.specs.declared.Request.{Request}
-use Rattle.sched.specs.Steps.{refused, done, tested, made, requested, offlineFirst, offlineAll}
+use Rattle.sched.specs.Steps.{changeOf, refused, done, tested, made, requested, offlineFirst, offlineAll}
 use Rattle.sched.proofs.Laws.{made-legal, first-keeps}
 use Rattle.scan.specs.Scan.{some}
 use Rattle.changes.specs.Changes.{changed, reaches}
@@ -36,15 +36,16 @@ pub record InStep (k : Shape) (b : Book) (s : System) : Type 0 where
 
 -- ---- tests
 
-tested-alike : (x y : Bool) {r r′ : SystemOutcome} {e e′ : Entry} → x ≡ y → (x ≡ true → Alike r e) → Alike r′ e′ → Alike (cond x r r′) (cond y e e′)
-tested-alike true true f g h = g refl
-tested-alike true false f g h = absurd (true≢false f)
-tested-alike false true f g h = absurd (false≢true f)
-tested-alike false false f g h = h
+tested-alike : (R : SystemOutcome → Entry → Type 0) (x y : Bool) {r r′ : SystemOutcome} {e e′ : Entry} → x ≡ y → (x ≡ true → R r e) → R r′ e′
+    → R (cond x r r′) (cond y e e′)
+tested-alike R true true f g h = g refl
+tested-alike R true false f g h = absurd (true≢false f)
+tested-alike R false true f g h = absurd (false≢true f)
+tested-alike R false false f g h = h
 
 module _ {k : Shape} {b : Book} {s : System} (K : InStep k b s) where
-  told-alike : (a : Answer) (n : ℕ) → told a ≡ n → Alike (refused a s) (unwritten n b)
-  told-alike a n e = record { number = e; lines = K .lines }
+  told-alike : (a : Answer) → Alike (refused a s) (unwritten (told a) b)
+  told-alike a = record { number = refl; lines = K .lines }
 
   same-domains : domains s ≡ k .domains
   same-domains = shaped-domains (K .shaped) (K .sound)
@@ -64,35 +65,56 @@ module _ {k : Shape} {b : Book} {s : System} (K : InStep k b s) where
   busy-alike p l = sym (ap (λ (o : Occupant). not (isIdle o)) (holder-agrees k b s p (K .shaped) (K .sound) (K .lines) l) ∙ held-busy (holder k b p))
 
   -- what the book notes of a request of d/v
-  abbrev note : ℕ → ℕ → Request → Note
+  abbrev pub note : ℕ → ℕ → Request → Note
   note d v q = requestNote (b (slot d v)) q (fullMask (k .pcpus)) (λ p. some (holder k b p))
 
-  made-alike : (d v : ℕ) (q : Request) → Present s (slot d v) → reaches q (pcpus s) ≡ true → Alike (made s (slot d v) q) (entered b (slot d v) (note d v q))
-  made-alike d v q h r =
-      legal-alike (K .tables) (made-legal s (slot d v) (K .sound) h q r) (K .lines)
-      (subst (λ (n : ℕ). Match s (changed q (fullMask n) (vcpuAt s (slot d v))) (note d v q)) (sym (K .shaped .pcpus))
+  pub made-match : (d v : ℕ) (q : Request) → Present s (slot d v) → reaches q (pcpus s) ≡ true → Match s (changeOf s (slot d v) q) (note d v q)
+  made-match d v q h r =
+      subst (λ (n : ℕ). Match s (changed q (fullMask n) (vcpuAt s (slot d v))) (note d v q)) (sym (K .shaped .pcpus))
       (request-match s (K .lines .says (slot d v) h) q (fullMask (k .pcpus)) (pcpus s) (λ p. some (holder k b p)) r
-      (λ p l. busy-alike p (omega (arith, same-pcpus)))))
+      (λ p l. busy-alike p (omega (arith, same-pcpus))))
 
-  -- the book tests as the system does
+  -- the book tests as the system does: what relates all that is refused, and the two sides of what is made, relates what they tell and leave
+  module _ (R : SystemOutcome → Entry → Type 0) (refuses : (a : Answer) → R (refused a s) (unwritten (told a) b)) where
+    pub requested-by : (d v : ℕ) (q : Request)
+        → (Present s (slot d v) → reaches q (pcpus s) ≡ true → R (made s (slot d v) q) (entered b (slot d v) (note d v q)))
+        → R (requested s d v q) (cond (reaches q (k .pcpus)) (identified k b d v (note d v q)) (unwritten 3 b))
+    unfolding requested
+    requested-by d v q f =
+        rw (unguarded _)
+        (tested-alike R (reaches q (pcpus s)) (reaches q (k .pcpus)) (ap (reaches q) same-pcpus)
+        (λ r. tested-alike R (ltb d (domains s)) (ltb d (k .domains)) (ap (ltb d) same-domains)
+        (λ x. tested-alike R (ltb v (vcpus s)) (ltb v (k .vcpus)) (ap (ltb v) same-vcpus)
+        (λ y.
+        let m = ltb-true d (domains s) x in
+        let n = ltb-true v (vcpus s) y in
+        f (record { domain = omega arith; vcpu = omega arith }) r)
+        (refuses BadVcpu))
+        (refuses BadDomain))
+        (refuses BadPcpu))
+
+    pub offline-all-by : (d now : ℕ) → (d < domains s → R (done (offlineFirst s d now (vcpus s))) (offlineLines k b d now (vcpus s)))
+        → R (offlineAll s d now) (cond (ltb d (k .domains)) (offlineLines k b d now (k .vcpus)) (unwritten 0 b))
+    unfolding offlineAll offlineFirst
+    offline-all-by d now f =
+        rw (unguarded (done (offlineFirst s d now (vcpuCount s d)))) (go (ltb d (domains s)) (ltb d (k .domains)) refl (ap (ltb d) same-domains))
+      where
+        go : (x y : Bool) → ltb d (domains s) ≡ x → x ≡ y
+            → R (done (offlineFirst s d now (cond x (vcpus s) 0))) (cond y (offlineLines k b d now (k .vcpus)) (unwritten 0 b))
+        go true true e g =
+            subst (λ (n : ℕ). R (done (offlineFirst s d now (vcpus s))) (offlineLines k b d now n)) same-vcpus (f (ltb-true d (domains s) e))
+        go true false e g = absurd (true≢false g)
+        go false true e g = absurd (false≢true g)
+        go false false e g = refuses Done
+
   pub requested-alike : (d v : ℕ) (q : Request)
       → Alike (requested s d v q) (cond (reaches q (k .pcpus)) (identified k b d v (note d v q)) (unwritten 3 b))
-  unfolding requested
   requested-alike d v q =
-      rw (unguarded _)
-      (tested-alike (reaches q (pcpus s)) (reaches q (k .pcpus)) (ap (reaches q) same-pcpus)
-      (λ r. tested-alike (ltb d (domains s)) (ltb d (k .domains)) (ap (ltb d) same-domains)
-      (λ x. tested-alike (ltb v (vcpus s)) (ltb v (k .vcpus)) (ap (ltb v) same-vcpus)
-      (λ y.
-      let m = ltb-true d (domains s) x in
-      let n = ltb-true v (vcpus s) y in
-      made-alike d v q (record { domain = omega arith; vcpu = omega arith }) r)
-      (told-alike BadVcpu 2 refl))
-      (told-alike BadDomain 1 refl))
-      (told-alike BadPcpu 3 refl))
+      requested-by Alike told-alike d v q
+      (λ h r. legal-alike (K .tables) (made-legal s (slot d v) (K .sound) h q r) (K .lines) (made-match d v q h r))
 
   -- one vCPU after another
-  first-alike : (d now n : ℕ) → d < domains s → n ≤ vcpus s → Alike (done (offlineFirst s d now n)) (offlineLines k b d now n)
+  pub first-alike : (d now n : ℕ) → d < domains s → n ≤ vcpus s → Alike (done (offlineFirst s d now n)) (offlineLines k b d now n)
   unfolding offlineFirst offlineLines
   first-alike d now zero a l = record { number = refl; lines = K .lines }
   first-alike d now (suc n) a l =
@@ -109,15 +131,4 @@ module _ {k : Shape} {b : Book} {s : System} (K : InStep k b s) where
       record { number = refl; lines = r .lines }
 
   pub offline-all-alike : (d now : ℕ) → Alike (offlineAll s d now) (cond (ltb d (k .domains)) (offlineLines k b d now (k .vcpus)) (unwritten 0 b))
-  unfolding offlineAll offlineFirst
-  offline-all-alike d now =
-      rw (unguarded (done (offlineFirst s d now (vcpuCount s d)))) (go (ltb d (domains s)) (ltb d (k .domains)) refl (ap (ltb d) same-domains))
-    where
-      go : (x y : Bool) → ltb d (domains s) ≡ x → x ≡ y
-          → Alike (done (offlineFirst s d now (cond x (vcpus s) 0))) (cond y (offlineLines k b d now (k .vcpus)) (unwritten 0 b))
-      go true true e f =
-          subst (λ (n : ℕ). Alike (done (offlineFirst s d now (vcpus s))) (offlineLines k b d now n)) same-vcpus
-          (first-alike d now (vcpus s) (ltb-true d (domains s) e) (omega arith))
-      go true false e f = absurd (true≢false f)
-      go false true e f = absurd (false≢true f)
-      go false false e f = record { number = refl; lines = K .lines }
+  offline-all-alike d now = offline-all-by Alike told-alike d now (λ a. first-alike d now (vcpus s) a (omega arith))

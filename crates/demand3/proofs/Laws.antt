@@ -6,3 +6,5 @@ pub use Rattle.demand3.proofs.Demand3.{demand-3}
 pub use Rattle.demand3.proofs.Uncut.{uncut}
 -- whoever no weight was set for ranks as one set to 256
 pub use Rattle.demand3.proofs.Unset.{unset-ranks}
+-- each vCPU record keeps the pCPU that it was last dispatched onto
+pub use Rattle.demand3.proofs.LastPcpu.{last-kept}

@@ -9,6 +9,9 @@ mod Entering
 mod EveryCall
 mod Holders
 mod InStep
+mod LastPcpu
+mod LastRecords
+mod LastRequests
 pub mod Laws
 mod Made
 pub mod MovesTell

@@ -23,7 +23,7 @@ use Rattle.system.specs.Slots.{Present}
 use Rattle.changes.specs.declared.Request.{Request}
 use Rattle.changes.specs.declared.Change.{Change}
 use Rattle.changes.specs.declared.Change.the-variants.{Refuse, Write, Enter, Leave}
-use Rattle.changes.specs.Records.{withState, dispatched, left}
+use Rattle.changes.specs.Records.{withState, dispatched, left, forgotten}
 use Rattle.changes.specs.Changes.{foundIn, admitted, ran, preempted, blocked, woken, masked, offlined, changed, reaches}
 use Rattle.sched.proofs.Laws.{NotRunning, Legal, stays, keeps, busy, goes-on, comes-off, off-nr, ready-nr, blocked-nr}
 use Rattle.demand3.specs.Dated.{onto, off}
@@ -46,6 +46,9 @@ module _ {l : Line} {v : VirtualCpu} (y : Says l v) where
 
   new-mask : (m : ℕ) → Says (remasked l m) (withMask v m)
   new-mask m = record { state = y .state; time = y .time; mask = refl; clock = y .clock }
+
+  forgets : (full : ℕ) → Says (remasked l full) (forgotten v full)
+  forgets full = record { state = y .state; time = y .time; mask = refl; clock = y .clock }
 
   pub on-pcpu : (p now : ℕ) → Says (opened l p now) (dispatched v p now)
   unfolding dispatched
@@ -107,9 +110,9 @@ module _ (s : System) {l : Line} {v : VirtualCpu} (y : Says l v) where
 
   offline-match : (full now : ℕ) (st : RunState) → v .state ≡ st → Match s (offlined v full now st) (offlineNote l full now st)
   offline-match full now Offline e = both-refuse (foundIn Offline)
-  offline-match full now Runnable e = both-write (new-mask (in-state y Offline off-nr) full)
-  offline-match full now (Running p) e = both-leave (new-mask (off-pcpu y p now Offline e off-nr) full)
-  offline-match full now Blocked e = both-write (new-mask (in-state y Offline off-nr) full)
+  offline-match full now Runnable e = both-write (forgets (in-state y Offline off-nr) full)
+  offline-match full now (Running p) e = both-leave (forgets (off-pcpu y p now Offline e off-nr) full)
+  offline-match full now Blocked e = both-write (forgets (in-state y Offline off-nr) full)
 
   run-match : (p now : ℕ) (taken : Bool) → taken ≡ not (isIdle (occupantAt s p)) → (st : RunState) → Match s (ran v p now st) (runNote l p taken now st)
   run-match p now taken f Offline = both-refuse (foundIn Offline)

@@ -5,6 +5,7 @@ pub mod Built
 pub mod Dated
 pub mod Demand3
 pub mod Holding
+pub mod LastPcpu
 pub mod Lists
 pub mod Reads
 pub mod Uncut

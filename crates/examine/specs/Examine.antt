@@ -53,9 +53,9 @@ unfoldable pub planned : Bool → List ℕ → Record → Plan
 planned built bs r =
     cond (eqb (r .kind) 11) (afterBuild built (MaybeCall.Some (Call.OfflineAll (r .dom) (r .value)))) (planOf built bs)
 
--- kinds 13 to 28 write a field, if there is a host
+-- kinds 13 to 29 write a field, if there is a host
 abbrev pub namesField : ℕ → Bool
-namesField k = leb 13 k && leb k 28
+namesField k = leb 13 k && leb k 29
 
 abbrev pub fieldWritten : Host → Bool → Record → HostOutcome
 fieldWritten h built r = cond built (record { number = told Done; host = written r h; count = 0 }) (refused h BadScript)

@@ -1,6 +1,6 @@
 //! Reads records on standard input and writes what each is told and, once there is a host, all that
 //! can be read of it at the record's own ids, with its value for a clock. Kinds 0 to 10 are those of a
-//! script; 11 takes a domain offline, 12 builds a host whose policy has a shape of its own, and 13 to 28
+//! script; 11 takes a domain offline, 12 builds a host whose policy has a shape of its own, and 13 to 29
 //! write one field of the host with no test.
 
 ghost use mathlib.Core.Path.{_≡_};
@@ -180,7 +180,7 @@ fn put_answer(out: &mut [u8], number: u64, told: u64, moves: usize) -> usize
 }
 
 fn put_host(out: &mut [u8], at: usize, built: bool, h: Host, r: Record) -> usize
-    requires { ⌜ at + 845 ≤ length (now out) ⌝ }
+    requires { ⌜ at + 866 ≤ length (now out) ⌝ }
     ensures { λ x. ⌜ Placed (now (out .entry)) at (hostShown built h r) (now (out .exit)) x ⌝ }
 {
     if built {
@@ -191,7 +191,7 @@ fn put_host(out: &mut [u8], at: usize, built: bool, h: Host, r: Record) -> usize
 }
 
 fn examined(s: Script, bytes: &[u8], out: &mut [u8]) -> Written
-    requires { ⌜ 908 ≤ length (now out) ⌝ }
+    requires { ⌜ 929 ≤ length (now out) ⌝ }
     ensures { λ w. ⌜ Examined s (now (bytes .entry)) (now (out .entry)) w (now (out .exit)) ⌝ }
 {
     let r = records::record_at(bytes);
@@ -217,7 +217,7 @@ fn examined(s: Script, bytes: &[u8], out: &mut [u8]) -> Written
 // ---- the program
 
 fn turn(s: Script, record: &[u8], output: &mut [u8]) -> Script
-    requires { ⌜ 908 ≤ length (now output) ⌝ }
+    requires { ⌜ 929 ≤ length (now output) ⌝ }
 {
     let w = examined(s, record, output);
     let written = w.written;
@@ -227,7 +227,7 @@ fn turn(s: Script, record: &[u8], output: &mut [u8]) -> Script
 
 fn main() {
     let mut input = [0u8; 20];
-    let mut output = [0u8; 908];
+    let mut output = [0u8; 929];
     let mut s = Script::new();
     // a proved loop has to end, and nothing says that the input does
     let mut turns = u64::MAX;

@@ -1,15 +1,17 @@
 -- The decision depends only on what is known of the slots below n that wait or are expired, and of the pCPUs. Assumes nothing.
 use Prim.Native.Nat.{ℕ, _<_}
-use mathlib.Core.Bool.{Bool, true, false, _&&_}
-use mathlib.Core.Path.{_≡_, refl, _∙_, ap, ap₂}
+use mathlib.Core.Bool.{Bool, true, false, _&&_, and-false}
+use mathlib.Core.Path.{_≡_, refl, sym, _∙_, ap, ap₂}
 use mathlib.Core.Logic.{inl, inr}
 use lib.Dec.{ltb}
+use borrow.Author.Tests.{ltb-true}
 use Rattle.scan.specs.Booleans.{both}
 use Rattle.masks.specs.Masks.{permits}
 use Rattle.masks.specs.Laws.{first-cong}
 use Rattle.moves.specs.declared.Choice.the-variants.{Run, Preempt}
 use Rattle.scan.specs.Scan.{Pick, nobody, at, some, scan-sound, scan-cong, never}
-use Rattle.moves.specs.Decide.{Standings, Involved, placement, placeable, beaten, loses, chosen, victim, orPreempt, orRun, decide}
+use Rattle.moves.specs.Decide.{Standings, Involved, usable, firstIdlePcpuFor, placement, placeable, beaten, loses, chosen, victim}
+use Rattle.moves.specs.Decide.{orPreempt, orRun, decide}
 
 -- t and t′ are alike for a decision over n slots
 pub record Alike (t t′ : Standings) (n : ℕ) : Type 0 where
@@ -17,6 +19,7 @@ pub record Alike (t t′ : Standings) (n : ℕ) : Type 0 where
   pub expired : (i : ℕ) → i < n → t .expired i ≡ t′ .expired i
   pub on : (i : ℕ) → i < n → t .expired i ≡ true → t .on i ≡ t′ .on i
   pub mask : (i : ℕ) → i < n → t .waits i ≡ true → t .mask i ≡ t′ .mask i
+  pub last : (i : ℕ) → i < n → t .waits i ≡ true → t .last i ≡ t′ .last i
   pub beats : (i j : ℕ) → i < n → j < n → Involved t i → Involved t j → t .beats i j ≡ t′ .beats i j
   pub idle : (p : ℕ) → p < 64 → t .idle p ≡ t′ .idle p
 
@@ -26,11 +29,21 @@ and-cong true a′ b b′ e f = rw (← e) (f refl)
 and-cong false a′ b b′ e f = rw (← e)
 
 module _ {t t′ : Standings} {n : ℕ} (A : Alike t t′ n) where
+  -- a pCPU from 64 up is admitted by no mask
+  usable-same : (i p : ℕ) → i < n → t .waits i ≡ true → usable t i p ≡ usable t′ i p
+  usable-same i p l w = go (ltb p 64) refl
+    where
+      go : (b : Bool) → ltb p 64 ≡ b → usable t i p ≡ usable t′ i p
+      go true e = ap₂ _&&_ (A .idle p (ltb-true p 64 e)) (ap (λ (m : ℕ). permits m p) (A .mask i l w))
+      go false e = rw e (and-false (t .idle p) ∙ sym (and-false (t′ .idle p)))
+
   placement-same : (i : ℕ) → i < n → t .waits i ≡ true → placement t i ≡ placement t′ i
-  unfolding placement
+  unfolding placement firstIdlePcpuFor
   placement-same i l w =
-      first-cong (λ p. t .idle p && permits (t .mask i) p) (λ p. t′ .idle p && permits (t′ .mask i) p) 64
-      (λ p h. ap₂ _&&_ (A .idle p h) (ap (λ (m : ℕ). permits m p) (A .mask i l w)))
+      let e = A .last i l w in
+      let u = usable-same i (t .last i) l w ∙ ap (usable t′ i) e in
+      let f = first-cong (usable t i) (usable t′ i) 64 (λ p h. usable-same i p l w) in
+      rw (u, e, f)
 
   placeable-same : (i : ℕ) → i < n → placeable t i ≡ placeable t′ i
   unfolding placeable

@@ -1,8 +1,8 @@
 -- The decision: whom to dispatch onto which idle pCPU; else whom to preempt; else neither. It is made over what is known of
--- each slot below n (who waits, who is expired: runs and has had its slice, where it runs, its mask, who beats whom) and of each
--- pCPU (whether it is idle), however that is got.
+-- each slot below n (who waits, who is expired: runs and has had its slice, where it runs, its mask, where it was last, who beats
+-- whom) and of each pCPU (whether it is idle), however that is got.
 use Prim.Native.Nat.{ℕ}
-use mathlib.Core.Bool.{Bool, true, _&&_}
+use mathlib.Core.Bool.{Bool, true, cond, _&&_}
 use mathlib.Core.Path.{_≡_}
 use mathlib.Core.Logic.{_⊎_}
 use lib.Dec.{ltb}
@@ -17,6 +17,7 @@ pub record Standings : Type 0 where
   pub expired : ℕ → Bool
   pub on : ℕ → ℕ
   pub mask : ℕ → ℕ
+  pub last : ℕ → ℕ
   pub beats : ℕ → ℕ → Bool
   pub idle : ℕ → Bool
 
@@ -24,9 +25,17 @@ pub record Standings : Type 0 where
 abbrev pub Involved : Standings → ℕ → Type 0
 Involved t i = (t .waits i ≡ true) ⊎ (t .expired i ≡ true)
 
+-- pCPU p is idle, and the mask of i admits it
+abbrev pub usable : Standings → ℕ → ℕ → Bool
+usable t i p = t .idle p && permits (t .mask i) p
+
 -- the lowest-numbered idle pCPU that the mask of i admits, or 64
+unfoldable pub firstIdlePcpuFor : Standings → ℕ → ℕ
+firstIdlePcpuFor t i = first (usable t i) 64
+
+-- where i goes: back onto the pCPU that it was last on, where that is idle and admitted; else onto the lowest-numbered that is
 unfoldable pub placement : Standings → ℕ → ℕ
-placement t i = first (λ p. t .idle p && permits (t .mask i) p) 64
+placement t i = cond (usable t i (t .last i)) (t .last i) (firstIdlePcpuFor t i)
 
 -- i waits and has a placement
 unfoldable pub placeable : Standings → ℕ → Bool
@@ -58,3 +67,16 @@ orRun t (at i) r = Run i (placement t i)
 
 unfoldable pub decide : Standings → ℕ → Choice
 decide t n = orRun t (chosen t n) (orPreempt t (victim t n))
+
+-- the same, but nobody was last on any pCPU: a decision over these is by the rule that the Rust decides by
+abbrev pub cold : Standings → Standings
+cold t =
+    record {
+      waits = t .waits;
+      expired = t .expired;
+      on = t .on;
+      mask = t .mask;
+      last = λ i. 64;
+      beats = t .beats;
+      idle = t .idle;
+    }

@@ -1,18 +1,20 @@
 -- Laws of the decision. Everything above this crate goes by these and not by the decision's text. Assumes nothing.
 use Prim.Native.Nat.{ℕ, _≤_, _<_}
-use mathlib.Core.Bool.{Bool, true, false, _&&_, true≢false, false≢true}
+use mathlib.Core.Bool.{Bool, true, false, cond, _&&_, true≢false, false≢true}
 use mathlib.Core.Path.{_≡_, refl, sym, _∙_}
 use native.Mathlib.Nat.{le-refl, lt-of-not-le}
 use native.Mathlib.Decide.{decLe}
 use native.Mathlib.Omega.{arith}
+use lib.Dec.{ltb}
 use borrow.Author.Tests.{ltb-true, lt-ltb}
 use Rattle.scan.specs.Booleans.{both, all-two, zero-one}
-use Rattle.masks.specs.Masks.{permits, first}
+use Rattle.masks.specs.Masks.{bit, permits}
 use Rattle.masks.specs.Laws.{first-least}
 use Rattle.moves.specs.declared.Choice.{Choice}
 use Rattle.moves.specs.declared.Choice.the-variants.{Run, Preempt, Rest}
 use Rattle.scan.specs.Scan.{Pick, nobody, at, scan, some, scan-sound, scan-complete, scan-least, scan-earliest, Ranks, never}
-use Rattle.moves.specs.Decide.{Standings, placement, placeable, beaten, loses, chosen, victim, orPreempt, orRun, decide}
+use Rattle.moves.specs.Decide.{Standings, usable, firstIdlePcpuFor, placement, placeable, beaten, loses, chosen, victim}
+use Rattle.moves.specs.Decide.{orPreempt, orRun, decide}
 
 -- i waits, and may use pCPU p now
 pub record Fits (t : Standings) (i p : ℕ) : Type 0 where
@@ -30,26 +32,57 @@ pub record Beats (t : Standings) (n i j : ℕ) : Type 0 where
 
 -- ---- placement: what it gives fits, and it gives one if one fits; whatever stands above goes by these two
 
-pub placement-fits : (t : Standings) (i : ℕ) → t .waits i ≡ true → placement t i < 64 → Fits t i (placement t i)
-unfolding placement
-placement-fits t i w l =
-    let f = both _ _ (first-least (λ p. t .idle p && permits (t .mask i) p) 64 .found l) in
-    record { waits = w; word = l; idle = f .0; admits = f .1 }
+module _ (t : Standings) (i : ℕ) where
+  pub usable-word : (p : ℕ) → usable t i p ≡ true → p < 64
+  usable-word p e =
+      let f = both (t .idle p) (permits (t .mask i) p) e in
+      ltb-true p 64 (both (ltb p 64) (bit (t .mask i) p) (f .1) .0)
 
--- which one it is: the lowest-numbered of those that fit
-pub placement-lowest : (t : Standings) (i p : ℕ) → Fits t i p → placement t i ≤ p
-unfolding placement
-placement-lowest t i p f = go (decLe (first g 64) p)
-  where
-    g : ℕ → Bool
-    g q = t .idle q && permits (t .mask i) q
+  usable-fits : (p : ℕ) → t .waits i ≡ true → usable t i p ≡ true → Fits t i p
+  usable-fits p w e =
+      let f = both _ _ e in
+      record { waits = w; word = usable-word p e; idle = f .0; admits = f .1 }
 
-    go : Dec (first g 64 ≤ p) → first g 64 ≤ p
-    go (yes h) = h
-    go (no n) = absurd (true≢false (sym (all-two (f .idle) (f .admits)) ∙ first-least g 64 .before p (lt-of-not-le n)))
+  fits-usable : (p : ℕ) → Fits t i p → usable t i p ≡ true
+  fits-usable p f = all-two (f .idle) (f .admits)
 
-pub placement-finds : (t : Standings) (i p : ℕ) → Fits t i p → placement t i < 64
-placement-finds t i p f = let w = f .word in omega (arith, placement-lowest t i p f)
+  pub first-lowest : (p : ℕ) → usable t i p ≡ true → firstIdlePcpuFor t i ≤ p
+  unfolding firstIdlePcpuFor
+  first-lowest p e = go (decLe (firstIdlePcpuFor t i) p)
+    where
+      go : Dec (firstIdlePcpuFor t i ≤ p) → firstIdlePcpuFor t i ≤ p
+      go (yes h) = h
+      go (no n) = absurd (true≢false (sym e ∙ first-least (usable t i) 64 .before p (lt-of-not-le n)))
+
+  pub placement-fits : t .waits i ≡ true → placement t i < 64 → Fits t i (placement t i)
+  unfolding placement firstIdlePcpuFor
+  placement-fits w = go (usable t i (t .last i)) refl
+    where
+      go : (b : Bool) → usable t i (t .last i) ≡ b → let p = cond b (t .last i) (firstIdlePcpuFor t i) in p < 64 → Fits t i p
+      go true e l = usable-fits (t .last i) w e
+      go false e l = usable-fits (firstIdlePcpuFor t i) w (first-least (usable t i) 64 .found l)
+
+  pub placement-finds : (p : ℕ) → Fits t i p → placement t i < 64
+  unfolding placement
+  placement-finds p f = go (usable t i (t .last i)) refl
+    where
+      go : (b : Bool) → usable t i (t .last i) ≡ b → cond b (t .last i) (firstIdlePcpuFor t i) < 64
+      go true e = usable-word (t .last i) e
+      go false e = let w = f .word in omega (arith, first-lowest p (fits-usable p f))
+
+  -- which one it is: the one that it was last on, where that fits
+  pub placement-last : Fits t i (t .last i) → placement t i ≡ t .last i
+  unfolding placement
+  placement-last f = rw (fits-usable (t .last i) f)
+
+  -- else the lowest-numbered of those that fit
+  pub placement-lowest : (p : ℕ) → (Fits t i (t .last i) → ⊥) → Fits t i p → placement t i ≤ p
+  unfolding placement
+  placement-lowest p n f = go (usable t i (t .last i)) refl
+    where
+      go : (b : Bool) → usable t i (t .last i) ≡ b → cond b (t .last i) (firstIdlePcpuFor t i) ≤ p
+      go true e = absurd (n (usable-fits (t .last i) (f .waits) e))
+      go false e = first-lowest p (fits-usable p f)
 
 pub placeable-fits : (t : Standings) (i : ℕ) → placeable t i ≡ true → Fits t i (placement t i)
 unfolding placeable

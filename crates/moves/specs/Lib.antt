@@ -1,5 +1,6 @@
 pub mod Decide
 pub mod DecideLaws
+pub mod BackToLast
 pub mod Unique
 pub mod Table
 pub mod Internal

@@ -11,7 +11,8 @@ use Rattle.moves.specs.Decide.{Standings}
 abbrev pub rowAt : List ℕ → ℕ → List ℕ
 rowAt service i = getD service (i * 4) 0 ∷ getD service (i * 4 + 1) 0 ∷ getD service (i * 4 + 2) 0 ∷ getD service (i * 4 + 3) 0 ∷ []
 
--- kind: 1 for one that waits, p + 2 for one that is expired on pCPU p, 0 for any other; idle: the set of idle pCPUs
+-- kind: 1 for one that waits, p + 2 for one that is expired on pCPU p, 0 for any other; idle: the set of idle pCPUs. Where a slot was
+-- last the table does not say: whoever is picked is put back by `back_to_last`.
 unfoldable pub tabled : List ℕ → List ℕ → List ℕ → List ℕ → ℕ → Standings
 tabled kind mask service weight idle =
     record {
@@ -19,6 +20,7 @@ tabled kind mask service weight idle =
       expired = λ i. leb 2 (getD kind i 0);
       on = λ i. getD kind i 0 - 2;
       mask = λ i. getD mask i 0;
+      last = λ i. 64;
       beats = λ i j. moreDeserving (value (rowAt service i)) (getD weight i 0) (value (rowAt service j)) (getD weight j 0);
       idle = λ p. permits idle p;
     }

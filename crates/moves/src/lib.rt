@@ -5,6 +5,7 @@ ghost use mathlib.Core.Path.{_≡_};
 ghost use mathlib.Core.Bool.{true, cond, _&&_};
 ghost use Prim.Native.Nat.{_≤_, _<_, min};
 ghost use Rattle.masks.specs.Masks.{permits, first};
+ghost use Rattle.moves.specs.BackToLast.{backTo};
 ghost use Rattle.moves.specs.Decide.{beaten, decide};
 ghost use Rattle.moves.specs.Table.{tabled, rowAt};
 ghost use Rattle.moves.specs.Internal.{ahead, StandsExpired, LeadsChosen, LeadsVictim};
@@ -183,7 +184,7 @@ fn within(n: usize) -> usize
     if n < 128 { n } else { 128 }
 }
 
-/// The next move over the first `n` slots, at most 128. `kind` is 1 for a slot that waits, p + 2 for
+/// The next move over the first `n` slots, at most 128, by the lowest-numbered pCPU. `kind` is 1 for a slot that waits, p + 2 for
 /// one that runs on pCPU p and may be preempted, and 0 for any other; `service` has four limbs a slot;
 /// `idle` is the set of idle pCPUs.
 pub fn decide<'a>(
@@ -215,5 +216,23 @@ pub fn decide<'a>(
         }
     } else {
         Choice::Rest
+    }
+}
+
+/// A choice, but whoever is dispatched goes back onto the pCPU that it was last on, where that is idle and
+/// its mask admits it.
+pub fn back_to_last(choice: Choice, idle: u64, mask: u64, last: u32) -> Choice
+    ensures { λ r. ⌜ r ≡ backTo idle mask last choice ⌝ }
+{
+    match choice {
+        Choice::Run { at, pcpu } => {
+            if masks::mask_permits(idle & mask, last) {
+                Choice::Run { at, pcpu: last }
+            } else {
+                Choice::Run { at, pcpu }
+            }
+        }
+        Choice::Preempt { at, pcpu } => Choice::Preempt { at, pcpu },
+        Choice::Rest => Choice::Rest,
     }
 }

@@ -21,7 +21,7 @@ use Rattle.policy.specs.Accounting.{floor, accounted}
 
 -- by run time, and the clock of the latest dispatch
 abbrev pub vcpu : RunState → ℕ → ℕ → VirtualCpu
-vcpu state runtime since = record { state = state; runtime = runtime; «dispatched_at» = since; affinity = 3 }
+vcpu state runtime since = record { state = state; runtime = runtime; «dispatched_at» = since; affinity = 3; last = 64 }
 
 -- all were dispatched at 90: whoever runs has 10 in flight
 abbrev pub waits : ℕ → VirtualCpu

@@ -1,7 +1,7 @@
 -- Laws of the choice, under any rule. What stands above goes by these. Assumes nothing.
 use Prim.Native.Nat.{ℕ, _≤_, _<_}
 use mathlib.Core.Bool.{Bool, true, false, not, false≢true}
-use mathlib.Core.Path.{_≡_, refl, _∙_, ap, subst}
+use mathlib.Core.Path.{_≡_, refl, sym, _∙_, ap, subst}
 use native.Mathlib.Omega.{arith}
 use borrow.Author.Tests.{ltb-true, lt-ltb, leb-true, le-leb, not-true}
 use Rattle.scan.specs.Booleans.{both, all-two}
@@ -9,7 +9,7 @@ use Rattle.system.specs.declared.RunState.{RunState}
 use Rattle.system.specs.declared.RunState.the-variants.{Offline, Runnable, Running, Blocked}
 use Rattle.system.specs.declared.System.{System}
 use Rattle.system.specs.Records.{elapsed}
-use Rattle.system.specs.Reads.{vcpuAt, isIdle, is-idle, stateAt, admits}
+use Rattle.system.specs.Reads.{vcpuAt, isIdle, is-idle, stateAt, lastAt, admits}
 use Rattle.system.specs.Slots.{pcpus, Present, slots, present, is-present, present-is}
 use Rattle.system.specs.States.{onto, isRunnable, is-runnable}
 use Rattle.sched.specs.CanRun.{CanRun}
@@ -17,9 +17,10 @@ use Rattle.moves.specs.declared.Choice.the-variants.{Run, Preempt, Rest}
 use Rattle.scan.specs.Scan.{Ranks}
 use Rattle.moves.specs.Decide.{placement}
 use Rattle.moves.specs.DecideLaws.{Fits, Beats, IsRun, run-fits, run-placed, run-found, preempt-beaten, rest-unbeaten}
-use Rattle.moves.specs.DecideLaws.{placement-lowest, pick-least, pick-earliest, victim-worst, victim-earliest}
+use Rattle.moves.specs.BackToLast.{placedBack, decide-cold}
+use Rattle.moves.specs.DecideLaws.{placement-last, placement-lowest, pick-least, pick-earliest, victim-worst, victim-earliest}
 use Rattle.rules.specs.Rules.{Rule, beats}
-use Rattle.rules.specs.Choices.{isExpired, standings, choice}
+use Rattle.rules.specs.Choices.{isExpired, standings, choice, coldChoice}
 
 -- the runner of slot i on pCPU p may be preempted: it has held it for the slice
 pub record CanPreempt (s : System) (ρ : Rule) (now i p : ℕ) : Type 0 where
@@ -141,13 +142,25 @@ module _ (s : System) (ρ : Rule) (now : ℕ) where
   unfolding choice
   choice-complete i p c u = run-found (standings s ρ now) (slots s) i p (present-is (c .present) .0) (can-fits i p c u)
 
-  -- Onto which pCPU: the lowest-numbered that it may be dispatched onto. This law stands apart: no other says which pCPU it is, and all
-  -- others hold of any that it may be dispatched onto.
-  pub choice-lowest : (i p q : ℕ) → choice s ρ now ≡ Run i p → CanRun s i q → p ≤ q
-  unfolding choice
-  choice-lowest i p q e c =
+  -- Onto which pCPU: the one that it was last on exactly where it may be dispatched there, else the lowest-numbered that it may be
+  -- dispatched onto. These laws stand apart: no other says which pCPU it is, and all others hold of any that it may be dispatched onto.
+  pub choice-back : (i p : ℕ) → choice s ρ now ≡ Run i p → CanRun s i (lastAt s i) → p ≡ lastAt s i
+  unfolding choice standings
+  choice-back i p e c =
+      sym (run-placed (standings s ρ now) (slots s) i p e)
+      ∙ placement-last (standings s ρ now) i (can-fits i (lastAt s i) c (choice-unbarred i p e))
+
+  pub choice-lowest : (i p q : ℕ) → choice s ρ now ≡ Run i p → (CanRun s i (lastAt s i) → ⊥) → CanRun s i q → p ≤ q
+  unfolding choice standings
+  choice-lowest i p q e n c =
       subst (λ (k : ℕ). k ≤ q) (run-placed (standings s ρ now) (slots s) i p e)
-      (placement-lowest (standings s ρ now) i q (can-fits i q c (choice-unbarred i p e)))
+      (placement-lowest (standings s ρ now) i q (λ f. n (fits-can i (lastAt s i) (present-is (c .present) .0) f))
+      (can-fits i q c (choice-unbarred i p e)))
+
+  -- in nothing but that pCPU is the choice other than the Rust's
+  pub choice-cold : choice s ρ now ≡ placedBack (standings s ρ now) (coldChoice s ρ now)
+  unfolding choice coldChoice
+  choice-cold = decide-cold (standings s ρ now) (slots s)
 
   -- a Preempt is of a runner past its slice
   pub choice-preempt : (i p : ℕ) → choice s ρ now ≡ Preempt i p → CanPreempt s ρ now i p

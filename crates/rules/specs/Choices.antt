@@ -9,7 +9,7 @@ use Rattle.system.specs.Reads.{vcpuAt, idleAt}
 use Rattle.system.specs.Slots.{slots, present}
 use Rattle.system.specs.States.{onto, whileRunning, isRunnable}
 use Rattle.moves.specs.declared.Choice.{Choice}
-use Rattle.moves.specs.Decide.{Standings, decide}
+use Rattle.moves.specs.Decide.{Standings, decide, cold}
 use Rattle.rules.specs.Rules.{Rule, beats}
 
 -- Running for at least the slice
@@ -23,6 +23,7 @@ standings s ρ now =
       expired = λ i. present s i && isExpired (ρ .slice) (elapsed (vcpuAt s i) now) ((vcpuAt s i) .state);
       on = λ i. onto ((vcpuAt s i) .state);
       mask = λ i. (vcpuAt s i) .affinity;
+      last = λ i. (vcpuAt s i) .last;
       beats = beats ρ s now;
       idle = idleAt s;
     }
@@ -30,3 +31,7 @@ standings s ρ now =
 -- the next move
 unfoldable pub choice : System → Rule → ℕ → Choice
 choice s ρ now = decide (standings s ρ now) (slots s)
+
+-- the next move by the rule without the pCPU that a vCPU was last on, the rule that the Rust decides by
+unfoldable pub coldChoice : System → Rule → ℕ → Choice
+coldChoice s ρ now = decide (cold (standings s ρ now)) (slots s)

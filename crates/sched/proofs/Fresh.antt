@@ -8,7 +8,7 @@ use Rattle.system.specs.declared.RunState.the-variants.{Offline, Running}
 use Rattle.system.specs.declared.VirtualCpu.{VirtualCpu}
 use Rattle.system.specs.declared.Occupant.the-variants.{Idle, Vcpu}
 use Rattle.system.specs.declared.PhysicalCpu.{PhysicalCpu}
-use Rattle.system.specs.Shape.{offlineVcpu, idle, blank, fresh}
+use Rattle.system.specs.Shape.{noVcpu, idle, blank, fresh}
 use Rattle.system.specs.Reads.{vcpuAt, occupantAt}
 use Rattle.system.specs.Writes.{Tables}
 use Rattle.system.specs.Slots.{pcpus, slot-below}
@@ -20,7 +20,7 @@ fresh-tables d v p = record { vcpus = length-replicate 128 (blank p); pcpus = le
 
 pub fresh-vcpu : (d v p i : ℕ) → i < 128 → vcpuAt (fresh d v p) i ≡ blank p
 unfolding fresh vcpuAt
-fresh-vcpu d v p i h = getD-replicate 128 i (blank p) offlineVcpu h
+fresh-vcpu d v p i h = getD-replicate 128 i (blank p) noVcpu h
 
 pub fresh-occupant : (d v p q : ℕ) → q < 64 → occupantAt (fresh d v p) q ≡ Idle
 unfolding fresh occupantAt

@@ -9,7 +9,7 @@ use Rattle.system.specs.declared.Occupant.the-variants.{Vcpu}
 use Rattle.system.specs.declared.System.{System}
 use Rattle.system.specs.declared.Answer.the-variants.{Done, PcpuBusy}
 use Rattle.system.specs.Answers.{told, SystemOutcome}
-use Rattle.system.specs.Shape.{offlineVcpu, idle}
+use Rattle.system.specs.Shape.{noVcpu, idle}
 use Rattle.system.specs.Reads.{occupantAt, isIdle}
 use Rattle.system.specs.Writes.{putVcpu, putOccupant}
 use Rattle.changes.specs.Changes.{pcpuOf, stored}
@@ -38,21 +38,21 @@ module _ (s : System) (i : ℕ) where
   who = Vcpu (i / 8) (i % 8)
 
   -- a refused change, or one of no pCPU, stores what is there
-  after : (x : Change) → stores s i (pcpuOf x) (stored x who (getD (s .vcpus) i offlineVcpu) (getD (s .pcpus) (pcpuOf x) idle)) ≡ applied s i x
+  after : (x : Change) → stores s i (pcpuOf x) (stored x who (getD (s .vcpus) i noVcpu) (getD (s .pcpus) (pcpuOf x) idle)) ≡ applied s i x
   unfolding applied putVcpu putOccupant occupantAt
-  after (Refuse a) = rw (set-getD (s .vcpus) i offlineVcpu, set-getD (s .pcpus) 0 idle)
+  after (Refuse a) = rw (set-getD (s .vcpus) i noVcpu, set-getD (s .pcpus) 0 idle)
   after (Write v) = rw (set-getD (s .pcpus) 0 idle)
   after (Enter v p) = go (isIdle ((getD (s .pcpus) p idle) .occupant))
     where
       go : (b : Bool)
           → stores s i p
           (cond b (record { answer = Done; vcpu = v; pcpu = record { occupant = who } })
-          (record { answer = PcpuBusy; vcpu = getD (s .vcpus) i offlineVcpu; pcpu = getD (s .pcpus) p idle }))
+          (record { answer = PcpuBusy; vcpu = getD (s .vcpus) i noVcpu; pcpu = getD (s .pcpus) p idle }))
           ≡ tested b PcpuBusy s (done (putOccupant (putVcpu s i v) p who))
       go true = refl
-      go false = rw (set-getD (s .vcpus) i offlineVcpu, set-getD (s .pcpus) p idle)
+      go false = rw (set-getD (s .vcpus) i noVcpu, set-getD (s .pcpus) p idle)
   after (Leave v p) = refl
 
   pub made-by-stores : {x y : Change} {o : Occupant} {p : ℕ} {r : After} → x ≡ y → o ≡ who → p ≡ pcpuOf x
-      → r ≡ stored x o (getD (s .vcpus) i offlineVcpu) (getD (s .pcpus) p idle) → stores s i p r ≡ applied s i y
+      → r ≡ stored x o (getD (s .vcpus) i noVcpu) (getD (s .pcpus) p idle) → stores s i p r ≡ applied s i y
   made-by-stores {x} e eo ep er = rw (er, eo, ep) (after x ∙ ap (applied s i) e)

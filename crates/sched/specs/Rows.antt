@@ -20,7 +20,7 @@ use Rattle.sched.specs.Steps.{admit, run, preempt, block, wake, setAffin
 
 -- d/v in a state, with a mask; it ran for 7 ticks and was dispatched at 100
 abbrev is : ℕ → ℕ → RunState → ℕ → System → System
-is d v st m s = putVcpu s (slot d v) (record { state = st; runtime = 7; «dispatched_at» = 100; affinity = m })
+is d v st m s = putVcpu s (slot d v) (record { state = st; runtime = 7; «dispatched_at» = 100; affinity = m; last = 64 })
 
 -- 2 domains of 3 vCPUs on 2 pCPUs: 0/0 runs on pCPU 0; 0/1 is Blocked; 0/2 is Offline; 1/0 is Runnable, as is 1/1, which admits
 -- pCPU 1 alone

@@ -83,7 +83,7 @@ pub room-least : (states : Bool) → 63 ≤ room states
 room-least true = omega arith
 room-least false = omega arith
 
-pub room-asked : (states b x : Bool) → b ≡ states && x → b ≡ true → room states ≡ 26000
+pub room-asked : (states b x : Bool) → b ≡ states && x → b ≡ true → room states ≡ 28700
 room-asked true b x e f = refl
 room-asked false b x e f = absurd (false≢true (sym e ∙ f))
 

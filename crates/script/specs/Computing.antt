@@ -3,11 +3,11 @@ use Rattle.host.specs.Computing.{computing}
 use Rattle.records.specs.Bytes.{bytes}
 use Rattle.records.specs.Records.{number, planOf}
 use Rattle.text.specs.Ascii.{ascii}
-use Rattle.text.specs.Lines.{digits, decimal, field, fields, answerLine, vcpuLine, pcpuLine}
+use Rattle.text.specs.Lines.{digits, decimal, field, fields, answerLine, numbersLine, pcpuLine}
 use Rattle.script.specs.HostText.{vcpuRows, pcpuRows, hostText}
 use Rattle.script.specs.Script.{carried, scriptNext, entry, scriptAfter, text}
 
 unfoldable pub replaying : Type 0
-unfolding computing bytes number planOf ascii digits decimal field fields answerLine vcpuLine pcpuLine vcpuRows pcpuRows hostText carried
+unfolding computing bytes number planOf ascii digits decimal field fields answerLine numbersLine pcpuLine vcpuRows pcpuRows hostText carried
     scriptNext entry scriptAfter text
 replaying = Unit {0}

@@ -15,7 +15,7 @@ use Rattle.system.specs.States.{whileRunning}
 use Rattle.policy.specs.declared.Scheduler.{Scheduler}
 use Rattle.policy.specs.Accounts.{weightOf}
 use Rattle.host.specs.declared.Host.{Host}
-use Rattle.text.specs.Lines.{vcpuLine, pcpuLine}
+use Rattle.text.specs.Lines.{numbersLine, pcpuLine}
 
 abbrev pub stateNumber : RunState → ℕ
 stateNumber Offline = 0
@@ -31,7 +31,7 @@ pcpuNumber st = whileRunning st (λ p. p) 64
 abbrev pub clockNumber : ℕ → RunState → ℕ
 clockNumber t st = whileRunning st (λ p. t) 0
 
--- domain, vCPU, state, pCPU, clock, run time, mask, weight
+-- domain, vCPU, state, pCPU, clock, run time, mask, weight, the pCPU that it was last on
 abbrev pub vcpuNumbers : ℕ → ℕ → VirtualCpu → ℕ → List ℕ
 vcpuNumbers d u v w =
     d
@@ -42,11 +42,12 @@ vcpuNumbers d u v w =
     ∷ v .runtime
     ∷ v .affinity
     ∷ w
+    ∷ v .last
     ∷ []
 
 -- the line of slot i, if it is that of one of a domain's k vCPUs
 abbrev pub slotRow : ℕ → ℕ → VirtualCpu → ℕ → List ℕ
-slotRow k i v w = cond (ltb (i % 8) k) (vcpuLine (vcpuNumbers (i / 8) (i % 8) v w)) []
+slotRow k i v w = cond (ltb (i % 8) k) (numbersLine (vcpuNumbers (i / 8) (i % 8) v w)) []
 
 abbrev pub vcpuRow : System → Scheduler → ℕ → List ℕ
 vcpuRow s π i = slotRow (vcpus s) i (vcpuAt s i) (weightOf π (i / 8) (i % 8))

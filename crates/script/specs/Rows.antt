@@ -80,13 +80,14 @@ four =
     ∷ [])
 
 -- The requirements do not say how `trace` writes a host. Of a vCPU: domain, vCPU, state (0 Offline, 1 Runnable, 2 Running, 3 Blocked),
--- pCPU (64 for none), clock of its run (0 for none), run time, mask, weight. Of a pCPU that is held: its id and the holder's.
+-- pCPU (64 for none), clock of its run (0 for none), run time, mask, weight, the pCPU that it was last on (64 for none). Of a pCPU that
+-- is held: its id and the holder's.
 abbrev pub hosts : List Row
 hosts =
     rows (hostText ((scriptAfter begun four 9) .host))
-    (ascii " 0 0 0 64 0 0 3 256\n 0 1 1 64 0 0 2 7\n 0 2 2 1 100 0 3 256\n 0 3 3 64 0 5 3 256\n p 1 0 2\n")
+    (ascii " 0 0 0 64 0 0 3 256 64\n 0 1 1 64 0 0 2 7 64\n 0 2 2 1 100 0 3 256 1\n 0 3 3 64 0 5 3 256 0\n p 1 0 2\n")
     -- after each record that leaves a host, and not before
-    ∷ rows (traced (all (admit ∷ build 2 1 1 ∷ []))) (ascii "1 9 0\n2 0 0\n 0 0 0 64 0 0 1 256\n 1 0 0 64 0 0 1 256\n")
+    ∷ rows (traced (all (admit ∷ build 2 1 1 ∷ []))) (ascii "1 9 0\n2 0 0\n 0 0 0 64 0 0 1 256 64\n 1 0 0 64 0 0 1 256 64\n")
     ∷ []
 
 pub hosts-due : AllDue hosts

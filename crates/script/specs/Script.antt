@@ -72,7 +72,7 @@ recordsIn bs = (length bs + 19) / 20
 
 -- the most bytes that a record's text takes
 abbrev pub room : Bool → ℕ
-room true = 26000
+room true = 28700
 room false = 63
 
 -- as many records as there are, and as there is room for

@@ -124,15 +124,15 @@ fn clock_number(dispatched_at: u64, state: RunState) -> u64
 
 // The line of slot i, where a domain has k vCPUs.
 fn put_vcpu(out: &mut [u8], at: usize, i: usize, k: usize, v: VirtualCpu, weight: u32) -> usize
-    requires { ⌜ at + 169 ≤ length (now out) ⌝ }
+    requires { ⌜ at + 190 ≤ length (now out) ⌝ }
     ensures { λ r. ⌜ Placed (now (out .entry)) at (slotRow k i v weight) (now (out .exit)) r ⌝ }
-    ensures { λ r. ⌜ r ≤ at + 169 ⌝ }
+    ensures { λ r. ⌜ r ≤ at + 190 ⌝ }
 {
     if k <= i % 8 {
         return at;
     }
     let state = v.state;
-    let line = text::vcpu_line([
+    let numbers = [
         (i / 8) as u64,
         (i % 8) as u64,
         state_number(state),
@@ -141,7 +141,9 @@ fn put_vcpu(out: &mut [u8], at: usize, i: usize, k: usize, v: VirtualCpu, weight
         v.runtime,
         v.affinity,
         weight as u64,
-    ]);
+        v.last as u64,
+    ];
+    let line = text::numbers_line(&numbers);
     text::append(out, at, line)
 }
 
@@ -161,9 +163,9 @@ fn put_pcpu(out: &mut [u8], at: usize, p: usize, c: PhysicalCpu) -> usize
 }
 
 fn put_vcpus(out: &mut [u8], at: usize, s: System, p: Scheduler) -> usize
-    requires { ⌜ at + 21632 ≤ length (now out) ⌝ }
+    requires { ⌜ at + 24320 ≤ length (now out) ⌝ }
     ensures { λ r. ⌜ Placed (now (out .entry)) at (vcpuRows s p (domains s * 8)) (now (out .exit)) r ⌝ }
-    ensures { λ r. ⌜ r ≤ at + 21632 ⌝ }
+    ensures { λ r. ⌜ r ≤ at + 24320 ⌝ }
 {
     let n = least(s.domain_count, system::MAX_DOMAINS) * 8;
     let k = least(s.vcpus_per_domain, system::MAX_VCPUS);
@@ -196,9 +198,9 @@ fn put_pcpus(out: &mut [u8], at: usize, s: System) -> usize
 }
 
 fn put_host(out: &mut [u8], at: usize, h: Host) -> usize
-    requires { ⌜ at + 25856 ≤ length (now out) ⌝ }
+    requires { ⌜ at + 28544 ≤ length (now out) ⌝ }
     ensures { λ r. ⌜ Placed (now (out .entry)) at (hostText h) (now (out .exit)) r ⌝ }
-    ensures { λ r. ⌜ r ≤ at + 25856 ⌝ }
+    ensures { λ r. ⌜ r ≤ at + 28544 ⌝ }
 {
     let s = h.system;
     let p = h.scheduler;
@@ -221,7 +223,7 @@ fn records_in(n: usize) -> usize
 fn room_of(states: bool) -> usize
     ensures { λ r. ⌜ r ≡ room states ⌝ }
 {
-    if states { 26000 } else { 63 }
+    if states { 28700 } else { 63 }
 }
 
 // Whether the host is written: where it is asked for and there is one.
@@ -294,7 +296,7 @@ fn stepped(script: Script, bytes: &[u8], out: &mut [u8], states: bool, n: usize)
     taken_of(number, built, h, n, written)
 }
 
-/// Takes as many records as there are and as there is room for: 63 bytes for each, or 26,000 where
+/// Takes as many records as there are and as there is room for: 63 bytes for each, or 28,700 where
 /// the states are asked for.
 pub fn replay(script: Script, bytes: &[u8], out: &mut [u8], states: bool) -> Taken
     ensures { λ r. ⌜ Replayed states script (now (bytes .entry)) (taken states (now (bytes .entry)) (now (out .entry))) (now (out .entry)) r (now (out .exit)) ⌝ }

@@ -1,12 +1,15 @@
 -- Lists that meet the hypotheses of demand 3, one of any kind and one at which two moves a pCPU are made, and one whose clocks do not run
--- back, with their moves and figures: the theorems are not empty, and the bound on moves is attained. Assumes nothing.
-use Prim.Native.Nat.{_*_}
+-- back, with their moves and figures: the theorems are not empty, and the bound on moves is attained. One of who goes back onto the pCPU
+-- that it was last on. Assumes nothing.
+use Prim.Native.Nat.{ℕ, _*_}
 use mathlib.Core.Path.{_≡_, refl}
 use mathlib.Core.List.{List, [], _∷_, _++_, map}
 use lib.ListN.{length}
 use native.Mathlib.Omega.{arith}
 use borrow.Author.Needs.{needs}
 use Rattle.system.specs.declared.RunState.the-variants.{Running}
+use Rattle.system.specs.Records.{noPcpu}
+use Rattle.system.specs.Reads.{lastAt}
 use Rattle.moves.specs.declared.Choice.the-variants.{Run, Preempt}
 use Rattle.rules.specs.Settle.{movesOn}
 use Rattle.host.specs.declared.Host.{Host}
@@ -19,7 +22,8 @@ use Rattle.demand3.specs.Lists.{bookAfter, movesAfter, Forward}
 use Rattle.demand3.specs.Lists as lists
 use Rattle.demand3.specs.Demand3.{Demand-3}
 use Rattle.demand3.specs.Uncut.{Uncut}
-use Rattle.demand3.proofs.Laws.{demand-3, uncut}
+use Rattle.demand3.specs.LastPcpu.{latestOnto, lastAfter, LastKept}
+use Rattle.demand3.proofs.Laws.{demand-3, uncut, last-kept}
 
 -- each call's step
 unfoldable pub steps : Host → List Call → List Step
@@ -97,3 +101,29 @@ forward-list =
 
 pub forward-holds : Uncut two-pcpus forward-book 7
 forward-holds = uncut 1 2 2 1 2 0 (omega arith) (omega arith) (omega arith) forward 7 forward-list
+
+-- ---- who goes back onto the pCPU that it was last on: two vCPUs on two pCPUs, slice 10. 0/1 runs on pCPU 1, blocks, and wakes while both
+-- pCPUs are idle; in the end it goes offline
+
+abbrev pub two : Host
+two = freshHost 1 2 2 1 2 10
+
+abbrev pub back : List Call
+back = Call.Admit 0 1 ∷ Call.Run 0 1 1 0 ∷ Call.Block 0 1 5 ∷ Call.Wake 0 1 ∷ Call.Advance 7 ∷ []
+
+abbrev pub back-offline : List Call
+back-offline = back ++ (Call.Offline 0 1 9 ∷ [])
+
+-- by the calls alone, of 0/1
+abbrev pub last-by-calls : List Call → ℕ
+last-by-calls cs = lastAfter two-pcpus two (blankBook two-pcpus) 1 noPcpu cs
+
+-- its dated moves; where it was last, by its record and by the calls: on pCPU 1, and on none once it is Offline
+pub back-does : (movesAfter two-pcpus two (blankBook two-pcpus) back ≡ dated onto 1 1 0 ∷ dated off 1 1 5 ∷ dated onto 1 1 7 ∷ [])
+    × (lastAt ((hostAfter two back) .system) 1 ≡ 1) × (last-by-calls back ≡ 1)
+    × (lastAt ((hostAfter two back-offline) .system) 1 ≡ 64) × (last-by-calls back-offline ≡ 64)
+unfolding computing movesAfter enter movedAll holder latestOnto lastAfter
+back-does = (refl, refl, refl, refl, refl)
+
+pub back-holds : (cs : List Call) → LastKept ((hostAfter two cs) .system) 1 (last-by-calls cs)
+back-holds cs = last-kept 1 2 2 1 2 10 (omega arith) (omega arith) (omega arith) cs 1 (record { domain = omega arith; vcpu = omega arith })

@@ -17,12 +17,12 @@ use Rattle.system.specs.declared.MaybeVcpu.{MaybeVcpu}
 use Rattle.system.specs.declared.MaybeState.{MaybeState}
 use Rattle.system.specs.declared.MaybeU64.{MaybeU64}
 use Rattle.system.specs.States.{whileRunning, schedulable}
-use Rattle.system.specs.Shape.{offlineVcpu, idle}
+use Rattle.system.specs.Shape.{noVcpu, idle}
 use Rattle.system.specs.Slots.{domains, vcpus, pcpus, slot}
 
--- what stands at a slot, and who holds a pCPU
+-- what stands at a slot, and who holds a pCPU; past the tables nothing does, and nobody
 unfoldable pub vcpuAt : System → ℕ → VirtualCpu
-vcpuAt s i = getD (s .vcpus) i offlineVcpu
+vcpuAt s i = getD (s .vcpus) i noVcpu
 
 unfoldable pub occupantAt : System → ℕ → Occupant
 occupantAt s p = (getD (s .pcpus) p idle) .occupant
@@ -36,6 +36,10 @@ runtimeAt s i = (vcpuAt s i) .runtime
 -- the mask of the vCPU at slot i admits pCPU p
 abbrev pub admits : System → ℕ → ℕ → Bool
 admits s i p = permits ((vcpuAt s i) .affinity) p
+
+-- the pCPU that it was last on
+abbrev pub lastAt : System → ℕ → ℕ
+lastAt s i = (vcpuAt s i) .last
 
 -- it is in the pool
 abbrev pub pooled : System → ℕ → Bool

@@ -6,9 +6,14 @@ use Rattle.system.specs.declared.RunState.the-variants.{Offline, Runnabl
 use Rattle.system.specs.declared.VirtualCpu.{VirtualCpu}
 use Rattle.system.specs.States.{whileRunning}
 
+-- what stands for no pCPU: a mask admits none from 64 up
+abbrev pub noPcpu : ℕ
+noPcpu = 64
+
 -- with another mask
 abbrev pub withMask : VirtualCpu → ℕ → VirtualCpu
-withMask v m = record { state = v .state; runtime = v .runtime; «dispatched_at» = v .«dispatched_at»; affinity = m }
+withMask v m =
+    record { state = v .state; runtime = v .runtime; «dispatched_at» = v .«dispatched_at»; affinity = m; last = v .last }
 
 -- max(0, now − dispatched)
 abbrev pub elapsed : VirtualCpu → ℕ → ℕ

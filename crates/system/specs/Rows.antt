@@ -18,7 +18,7 @@ use Rattle.system.specs.Records.{inFlight}
 use Rattle.system.specs.Shape.{fresh, builtSystem}
 use Rattle.system.specs.Slots.{domains, pcpus, slot}
 use Rattle.system.specs.Reads.{vcpuAt, occupantAt, vcpuOf, vcpuCount, stateOf, isRunning, runtimeOf, onCpuSince, occupantOf}
-use Rattle.system.specs.Reads.{affinityOf, affinityPermits, fullAffinity, count, busyPcpus}
+use Rattle.system.specs.Reads.{lastAt, affinityOf, affinityPermits, fullAffinity, count, busyPcpus}
 use Rattle.system.specs.Writes.{putVcpu, putOccupant}
 
 abbrev pub numbers : List Row
@@ -61,9 +61,9 @@ abbrev holder : Occupant → ℕ
 holder Idle = 0
 holder (Vcpu d v) = 1 + 10 * d + v
 
--- d/v in a state: it ran for 7 ticks, was dispatched at 100, and admits pCPUs 0 and 3
+-- d/v in a state: it ran for 7 ticks, was dispatched at 100, admits pCPUs 0 and 3, and is said to have been last on pCPU 2
 abbrev is : ℕ → ℕ → RunState → System → System
-is d v st s = putVcpu s (slot d v) (record { state = st; runtime = 7; «dispatched_at» = 100; affinity = 9 })
+is d v st s = putVcpu s (slot d v) (record { state = st; runtime = 7; «dispatched_at» = 100; affinity = 9; last = 2 })
 
 -- 2 domains of 3 vCPUs on 4 pCPUs: 1/2 runs on pCPU 3, 0/1 is Blocked, the others are as built
 abbrev host : System
@@ -108,6 +108,8 @@ reads =
     ∷ row (fullAffinity damaged) (2 ^ 64 - 1)
     ∷ rows (test (affinityPermits host 1 2 0) ∷ test (affinityPermits host 1 2 1) ∷ test (affinityPermits host 1 2 3) ∷ []) (1 ∷ 0 ∷ 1 ∷ [])
     ∷ rows (test (affinityPermits (is 0 0 Runnable (fresh 1 1 3)) 0 0 3) ∷ test (affinityPermits host 0 3 0) ∷ []) (0 ∷ 0 ∷ [])
+    -- where it was last, by its record; as built, on none
+    ∷ rows (lastAt host 10 ∷ lastAt host 0 ∷ []) (2 ∷ 64 ∷ [])
     -- a shape at the sizes is built, one above them is told 7
     ∷ rows ((builtSystem 16 8 64) .number ∷ (builtSystem 0 0 0) .number ∷ []) (0 ∷ 0 ∷ [])
     ∷ rows ((builtSystem 17 8 64) .number ∷ (builtSystem 16 9 64) .number ∷ (builtSystem 16 8 65) .number ∷ []) (7 ∷ 7 ∷ 7 ∷ [])

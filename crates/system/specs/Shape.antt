@@ -11,11 +11,15 @@ use Rattle.system.specs.declared.PhysicalCpu.{PhysicalCpu}
 use Rattle.system.specs.declared.System.{System}
 use Rattle.system.specs.declared.Answer.the-variants.{Done, TooLarge}
 use Rattle.system.specs.Answers.{told, SystemOutcome}
-use Rattle.system.specs.Records.{withMask}
+use Rattle.system.specs.Records.{noPcpu, withMask}
 
 -- what every vCPU record starts from
 abbrev pub offlineVcpu : VirtualCpu
-offlineVcpu = record { state = Offline; runtime = 0; «dispatched_at» = 0; affinity = 0 }
+offlineVcpu = record { state = Offline; runtime = 0; «dispatched_at» = 0; affinity = 0; last = noPcpu }
+
+-- what is read past the table of vCPUs
+abbrev pub noVcpu : VirtualCpu
+noVcpu = record { state = Offline; runtime = 0; «dispatched_at» = 0; affinity = 0; last = 0 }
 
 -- a pCPU that nobody holds
 abbrev pub idle : PhysicalCpu
@@ -25,7 +29,7 @@ idle = record { occupant = Idle }
 abbrev pub withinSizes : ℕ → ℕ → ℕ → Bool
 withinSizes d v p = leb d 16 && (leb v 8 && leb p 64)
 
--- a vCPU as built on a host of p pCPUs: Offline, every pCPU admitted
+-- a vCPU as built on a host of p pCPUs: Offline, every pCPU admitted, dispatched onto none
 abbrev pub blank : ℕ → VirtualCpu
 blank p = withMask offlineVcpu (fullMask p)
 

@@ -9,7 +9,7 @@ use Rattle.system.specs.declared.VirtualCpu.{VirtualCpu}
 use Rattle.system.specs.declared.Occupant.{Occupant}
 use Rattle.system.specs.declared.PhysicalCpu.{PhysicalCpu}
 use Rattle.system.specs.declared.System.{System}
-use Rattle.system.specs.Shape.{offlineVcpu, idle}
+use Rattle.system.specs.Shape.{noVcpu, idle}
 use Rattle.system.specs.Slots.{pcpus, Present}
 use Rattle.system.specs.Reads.{vcpuAt, occupantAt}
 
@@ -103,8 +103,8 @@ unfolding vcpuAt occupantAt putVcpu
 wrote-vcpu s i v p t hi =
     record {
       shape = vcpu-shape s i v;
-      here = getD-set-same (s .vcpus) i v offlineVcpu (omega (arith, t .vcpus));
-      there = λ j n. getD-set-other (s .vcpus) i j v offlineVcpu n;
+      here = getD-set-same (s .vcpus) i v noVcpu (omega (arith, t .vcpus));
+      there = λ j n. getD-set-other (s .vcpus) i j v noVcpu n;
       onto = refl;
       others = λ q n. refl;
     }

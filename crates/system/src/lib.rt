@@ -44,6 +44,8 @@ pub struct VirtualCpu {
     pub dispatched_at: Ticks,
     /// Hard affinity: bit p admits pCPU p.
     pub affinity: u64,
+    /// The pCPU that it was last dispatched onto since it was last Offline, or `NO_PCPU`.
+    pub last: Pcpu,
 }
 
 /// Who holds a pCPU.
@@ -133,6 +135,8 @@ pub const MAX_DOMAINS: usize = 16;
 pub const MAX_VCPUS: usize = 8;
 /// The most pCPUs of a system.
 pub const MAX_PCPUS: usize = 64;
+/// What stands for no pCPU: a mask admits none from 64 up.
+pub const NO_PCPU: Pcpu = 64;
 
 impl VirtualCpu {
     /// What every record starts from; whoever makes one puts the full mask in.
@@ -141,6 +145,7 @@ impl VirtualCpu {
         runtime: 0,
         dispatched_at: 0,
         affinity: 0,
+        last: NO_PCPU,
     };
 }
 

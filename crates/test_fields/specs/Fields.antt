@@ -1,5 +1,5 @@
 -- A field of a host, written as a record says and with no test, and what is kept at a slot. The kinds of a record:
---   of a vCPU, at the slot of the ids: 13 state, 14 run time, 15 clock of the dispatch, 16 mask
+--   of a vCPU, at the slot of the ids: 13 state, 14 run time, 15 clock of the dispatch, 16 mask, 29 the pCPU that it was last on
 --   of a pCPU, the third: 17 occupant
 --   of the system: 18 domains, 19 vCPUs in each, 20 pCPUs
 --   of the policy: 21 domains, 22 vCPUs in each, 23 slice, 24 boost
@@ -34,8 +34,8 @@ pcpuOf p = p % 64
 abbrev pub wordWritten : Record → ℕ → ℕ → ℕ
 wordWritten r k old = cond (eqb (r .kind) k) (r .value) old
 
-abbrev pub weightWritten : Record → ℕ → ℕ
-weightWritten r old = cond (eqb (r .kind) 25) (r .third) old
+abbrev pub thirdWritten : Record → ℕ → ℕ → ℕ
+thirdWritten r k old = cond (eqb (r .kind) k) (r .third) old
 
 -- a value of 0 is false
 abbrev pub flagWritten : Record → ℕ → Bool → Bool
@@ -67,6 +67,7 @@ vcpuWritten r v =
       runtime = wordWritten r 14 (v .runtime);
       «dispatched_at» = wordWritten r 15 (v .«dispatched_at»);
       affinity = wordWritten r 16 (v .affinity);
+      last = thirdWritten r 29 (v .last);
     }
 
 unfoldable pub systemWritten : Record → System → System
@@ -82,7 +83,7 @@ systemWritten r s =
 unfoldable pub accountWritten : Record → Account → Account
 accountWritten r a =
     record {
-      weight = weightWritten r (a .weight);
+      weight = thirdWritten r 25 (a .weight);
       offset = offsetWritten r (a .offset);
       «was_schedulable» = flagWritten r 28 (a .«was_schedulable»);
     }
@@ -117,6 +118,7 @@ keptOf v a boost =
     ∷ bit (a .«was_schedulable»)
     ∷ bit boost
     ∷ v .«dispatched_at»
+    ∷ v .last
     ∷ []
 
 unfoldable pub kept : System → Scheduler → ℕ → ℕ → List ℕ

@@ -3,7 +3,7 @@
 
 ghost use mathlib.Core.Path.{_≡_};
 ghost use Rattle.test_fields.specs.Fields.{slotOf, pcpuOf, wordWritten, flagWritten, stateWritten, occupantWritten};
-ghost use Rattle.test_fields.specs.Fields.{vcpuWritten, systemWritten, offsetWritten, weightWritten, accountWritten, policyWritten, written};
+ghost use Rattle.test_fields.specs.Fields.{vcpuWritten, systemWritten, offsetWritten, thirdWritten, accountWritten, policyWritten, written};
 ghost use Rattle.test_fields.specs.Fields.{bit, kept};
 use host::Host;
 use policy::Account;
@@ -21,10 +21,10 @@ use system::VirtualCpu;
 /// The first kind of record that names a field.
 pub const FIRST: u16 = 13;
 /// The last one.
-pub const LAST: u16 = 28;
+pub const LAST: u16 = 29;
 
-/// The numbers of one line.
-pub type Numbers = [u64; 8];
+/// What is kept at a slot, as numbers.
+pub type Numbers = [u64; 9];
 
 // ---- where
 
@@ -40,7 +40,7 @@ fn pcpu_of(pcpu: Pcpu) -> usize
     (pcpu % 64) as usize
 }
 
-// ---- one field: the record's value if the kind names it, else what is there
+// ---- one field: the record's value or third if the kind names it, else what is there
 
 fn word(r: Record, kind: u16, old: u64) -> u64
     ensures { λ x. ⌜ x ≡ wordWritten r kind old ⌝ }
@@ -111,10 +111,10 @@ fn offset(r: Record, old: [u32; 4]) -> [u32; 4]
     old
 }
 
-fn weight(r: Record, old: u32) -> u32
-    ensures { λ x. ⌜ x ≡ weightWritten r old ⌝ }
+fn third(r: Record, kind: u16, old: u32) -> u32
+    ensures { λ x. ⌜ x ≡ thirdWritten r kind old ⌝ }
 {
-    if r.kind == 25 { r.third } else { old }
+    if r.kind == kind { r.third } else { old }
 }
 
 // ---- the records of a host
@@ -128,6 +128,7 @@ fn vcpu(r: Record, v: VirtualCpu) -> VirtualCpu
         runtime: word(r, 14, v.runtime),
         dispatched_at: word(r, 15, v.dispatched_at),
         affinity: word(r, 16, v.affinity),
+        last: third(r, 29, v.last),
     }
 }
 
@@ -154,7 +155,7 @@ fn account(r: Record, a: Account) -> Account
 {
     let old = a.offset;
     Account {
-        weight: weight(r, a.weight),
+        weight: third(r, 25, a.weight),
         offset: offset(r, old),
         was_schedulable: flag(r, 28, a.was_schedulable),
     }
@@ -202,7 +203,7 @@ pub fn bit(b: bool) -> u64
 }
 
 /// What no other read tells, at a slot: the weight as stored, the offset by limbs, the snapshot, the boost,
-/// and the clock of the last dispatch.
+/// the clock of the last dispatch, and the pCPU that it was last on.
 pub fn kept(s: System, p: Scheduler, dom: DomId, vcpu: Vcpu) -> Numbers
     ensures { λ r. ⌜ r ≡ kept s p dom vcpu ⌝ }
 {
@@ -219,5 +220,6 @@ pub fn kept(s: System, p: Scheduler, dom: DomId, vcpu: Vcpu) -> Numbers
         bit(a.was_schedulable),
         bit(p.wake_boost),
         v.dispatched_at,
+        wide(v.last),
     ]
 }

@@ -17,7 +17,7 @@ use Rattle.policy.specs.Accounts.{weightOf}
 use Rattle.advance.specs.Advance.{next}
 use Rattle.usage.specs.Usage.{usage}
 use Rattle.test_fields.specs.Fields.{bit, kept}
-use Rattle.text.specs.Lines.{vcpuLine}
+use Rattle.text.specs.Lines.{numbersLine}
 use Rattle.text.specs.Places.{put, Placed}
 use Rattle.test_reads.specs.declared.Query.{Query}
 use Rattle.test_reads.specs.Numbers.{maybeStateNumber, maybeNumbers, holderNumbers, violationNumbers, decisionNumbers}
@@ -57,15 +57,15 @@ moveNumbers s π t =
 
 unfoldable pub readsText : System → Scheduler → Query → List ℕ
 readsText s π q =
-    vcpuLine (vcpuNumbers s q)
-    ++ vcpuLine (domainNumbers s π q)
-    ++ vcpuLine (hostNumbers s π (q .pcpu))
-    ++ vcpuLine (moveNumbers s π (q .clock))
-    ++ vcpuLine (kept s π (q .dom) (q .vcpu))
+    numbersLine (vcpuNumbers s q)
+    ++ numbersLine (domainNumbers s π q)
+    ++ numbersLine (hostNumbers s π (q .pcpu))
+    ++ numbersLine (moveNumbers s π (q .clock))
+    ++ numbersLine (kept s π (q .dom) (q .vcpu))
 
 -- there is room for five lines at index `at`
 abbrev pub roomy : List ℕ → ℕ → Bool
-roomy out at = leb (at + 845) (length out)
+roomy out at = leb (at + 866) (length out)
 
 -- their text put there, and the index past it
 abbrev pub readsPut : List ℕ → ℕ → List ℕ → List ℕ
@@ -75,8 +75,8 @@ abbrev pub readsEnd : List ℕ → ℕ → List ℕ → ℕ
 readsEnd out at t = cond (roomy out at) (at + length t) at
 
 -- where there is room, they stand there
-pub reads-placed : {out t after : List ℕ} {at end : ℕ} → at + 845 ≤ length out → after ≡ readsPut out at t → end ≡ readsEnd out at t
+pub reads-placed : {out t after : List ℕ} {at end : ℕ} → at + 866 ≤ length out → after ≡ readsPut out at t → end ≡ readsEnd out at t
     → Placed out at t after end
 reads-placed {out} {at = at} h e f =
-    let there = le-leb (at + 845) (length out) h in
+    let there = le-leb (at + 866) (length out) h in
     record { bytes = rw there at e; past = rw there at f }

@@ -1,17 +1,16 @@
-//! What can be read of a host, as five lines of eight numbers: a vCPU, its domain, the host with one
-//! pCPU, the verdict with the next move, and what is kept at the slot.
+//! What can be read of a host, as five lines of numbers: a vCPU, its domain, the host with one pCPU, the
+//! verdict with the next move, eight numbers each, and the nine that are kept at the slot.
 
 ghost use mathlib.Core.Path.{_≡_};
-ghost use Prim.Native.Nat.{_+_, _≤_};
+ghost use Prim.Native.Nat.{_+_, _*_, _≤_};
 ghost use lib.ListN.{length};
-ghost use Rattle.text.specs.Lines.{vcpuLine};
+ghost use Rattle.text.specs.Lines.{numbersLine};
 ghost use Rattle.text.specs.Places.{Placed};
 ghost use Rattle.test_reads.specs.Numbers.{maybeStateNumber, maybeNumbers, holderNumbers, violationNumbers, decisionNumbers};
 ghost use Rattle.test_reads.specs.Reads.{vcpuNumbers, domainNumbers, hostNumbers, moveNumbers, readsText, readsPut, readsEnd};
 use advance::Decision;
 use host::Host;
 use policy::Scheduler;
-use system::Answer;
 use system::DomId;
 use system::MaybeState;
 use system::MaybeU64;
@@ -26,7 +25,7 @@ use test_fields::wide;
 use verdict::Violation;
 
 /// The most bytes that the five lines take.
-pub const ROOM: usize = 845;
+pub const ROOM: usize = 866;
 
 /// What is asked about: a vCPU, a pCPU and a clock.
 pub struct Query {
@@ -168,24 +167,25 @@ fn move_numbers(s: System, p: Scheduler, clock: Ticks) -> [u64; 8]
 
 // ---- as lines
 
-fn put_numbers(out: &mut [u8], at: usize, numbers: [u64; 8]) -> usize
-    requires { ⌜ at + 169 ≤ length (now out) ⌝ }
-    ensures { λ r. ⌜ Placed (now (out .entry)) at (vcpuLine numbers) (now (out .exit)) r ⌝ }
-    ensures { λ r. ⌜ r ≤ at + 169 ⌝ }
+fn put_numbers(out: &mut [u8], at: usize, numbers: &[u64]) -> usize
+    requires { ⌜ length (now numbers) ≤ 9 ⌝ }
+    requires { ⌜ at + (length (now numbers) * 21 + 1) ≤ length (now out) ⌝ }
+    ensures { λ r. ⌜ Placed (now (out .entry)) at (numbersLine (now (numbers .entry))) (now (out .exit)) r ⌝ }
+    ensures { λ r. ⌜ r ≤ at + (length (now (numbers .entry)) * 21 + 1) ⌝ }
 {
-    let line = text::vcpu_line(numbers);
+    let line = text::numbers_line(numbers);
     text::append(out, at, line)
 }
 
 fn put_reads(out: &mut [u8], at: usize, s: System, p: Scheduler, q: Query) -> usize
-    requires { ⌜ at + 845 ≤ length (now out) ⌝ }
+    requires { ⌜ at + 866 ≤ length (now out) ⌝ }
     ensures { λ r. ⌜ Placed (now (out .entry)) at (readsText s p q) (now (out .exit)) r ⌝ }
 {
-    let a = put_numbers(out, at, vcpu_numbers(s, q));
-    let b = put_numbers(out, a, domain_numbers(s, p, q));
-    let c = put_numbers(out, b, host_numbers(s, p, q.pcpu));
-    let d = put_numbers(out, c, move_numbers(s, p, q.clock));
-    put_numbers(out, d, test_fields::kept(s, p, q.dom, q.vcpu))
+    let a = put_numbers(out, at, &vcpu_numbers(s, q));
+    let b = put_numbers(out, a, &domain_numbers(s, p, q));
+    let c = put_numbers(out, b, &host_numbers(s, p, q.pcpu));
+    let d = put_numbers(out, c, &move_numbers(s, p, q.clock));
+    put_numbers(out, d, &test_fields::kept(s, p, q.dom, q.vcpu))
 }
 
 /// Puts what can be read of a host at index `at`, if ROOM bytes are left there, and answers the

@@ -5,7 +5,7 @@ use mathlib.Core.List.{List, [], _∷_, _++_}
 use native.Mathlib.Omega.{arith}
 use lib.Dec.{ltb}
 use lib.ListN.{length, length-append}
-use Rattle.text.specs.Lines.{digits, decimal, field, fields, answerLine, vcpuLine, pcpuLine}
+use Rattle.text.specs.Lines.{digits, decimal, field, fields, answerLine, numbersLine, pcpuLine}
 
 digits-short : (f n : ℕ) → length (digits f n) ≤ f
 unfolding digits
@@ -43,9 +43,9 @@ answer-line-short n a m =
     let numbered = longer (decimal n) (field a) 20 21 (decimal-short n) (field-short a) in
     ended (decimal n ++ field a ++ field m) 62 (longer (decimal n ++ field a) (field m) 41 21 numbered (field-short m))
 
-pub vcpu-line-short : (ns : List ℕ) → length (vcpuLine ns) ≤ length ns * 21 + 1
-unfolding vcpuLine
-vcpu-line-short ns = ended (fields ns) (length ns * 21) (fields-short ns)
+pub numbers-line-short : (ns : List ℕ) → length (numbersLine ns) ≤ length ns * 21 + 1
+unfolding numbersLine
+numbers-line-short ns = ended (fields ns) (length ns * 21) (fields-short ns)
 
 pub pcpu-line-short : (p d v : ℕ) → length (pcpuLine p d v) ≤ 66
 unfolding pcpuLine

@@ -28,9 +28,9 @@ fields (n ∷ ns) = field n ++ fields ns
 unfoldable pub answerLine : ℕ → ℕ → ℕ → List ℕ
 answerLine number answer moves = decimal number ++ field answer ++ field moves ++ (10 ∷ [])
 
--- a vCPU, by its numbers
-unfoldable pub vcpuLine : List ℕ → List ℕ
-vcpuLine ns = fields ns ++ (10 ∷ [])
+-- some numbers, as a vCPU's are written
+unfoldable pub numbersLine : List ℕ → List ℕ
+numbersLine ns = fields ns ++ (10 ∷ [])
 
 -- an occupied pCPU and its holder
 unfoldable pub pcpuLine : ℕ → ℕ → ℕ → List ℕ

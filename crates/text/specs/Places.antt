@@ -21,7 +21,7 @@ over out t = put out 0 t
 
 -- a line of that text: zeros past it
 abbrev pub lineOf : List ℕ → Line
-lineOf t = record { bytes = over (replicate 176 0) t; length = length t }
+lineOf t = record { bytes = over (replicate 192 0) t; length = length t }
 
 -- a line's own text
 abbrev pub textOf : Line → List ℕ
@@ -29,7 +29,7 @@ textOf l = take (l .length) (l .bytes)
 
 -- the line is whole, and there is room for it at index `at`
 abbrev pub roomy : List ℕ → ℕ → Line → Bool
-roomy out at l = leb (l .length) 176 && leb (at + l .length) (length out)
+roomy out at l = leb (l .length) 192 && leb (at + l .length) (length out)
 
 -- a line put at index `at` where there is room, and the index past it
 abbrev pub appended : List ℕ → ℕ → Line → List ℕ
@@ -65,7 +65,7 @@ placed-then {before} {t} {mid} {u} {after} {at} {m} {end} l p q =
     record { bytes = both ∙ put-put before t u at l; past = omega (arith, p .past, q .past, length-append t u) }
 
 -- a line whose text was put at the start of zeros
-pub line-of : {t bytes : List ℕ} {length′ : ℕ} → Placed (replicate 176 0) 0 t bytes length′
+pub line-of : {t bytes : List ℕ} {length′ : ℕ} → Placed (replicate 192 0) 0 t bytes length′
     → record { bytes = bytes; length = length′ } ≡ lineOf t
 line-of {t} p = ap₂ (λ (b : List ℕ) (n : ℕ). record { bytes = b; length = n }) (p .bytes) (p .past ∙ zero-add (length t))
 
@@ -75,8 +75,8 @@ placed-none out at =
     record { bytes = sym (ap (λ n. take at out ++ drop n out) (add-zero at) ∙ take-append-drop at out); past = sym (add-zero at) }
 
 -- a line that fits is put there
-pub append-placed : (out t : List ℕ) (at : ℕ) → length t ≤ 176 → at + length t ≤ length out
+pub append-placed : (out t : List ℕ) (at : ℕ) → length t ≤ 192 → at + length t ≤ length out
     → Placed out at t (appended out at (lineOf t)) (endOf out at (lineOf t))
 append-placed out t at short room =
-    rw (le-leb (length t) 176 short, le-leb (at + length t) (length out) room)
-    (record { bytes = ap (put out at) (take-append-seam t (drop (0 + length t) (replicate 176 0))); past = refl })
+    rw (le-leb (length t) 192 short, le-leb (at + length t) (length out) room)
+    (record { bytes = ap (put out at) (take-append-seam t (drop (0 + length t) (replicate 192 0))); past = refl })

@@ -4,7 +4,7 @@ use mathlib.Core.Path.{refl}
 use mathlib.Core.List.{List, [], _∷_}
 use Rattle.rows.specs.Rows.{Row, rows, AllDue}
 use Rattle.text.specs.Ascii.{ascii}
-use Rattle.text.specs.Lines.{digits, decimal, field, fields, answerLine, vcpuLine, pcpuLine}
+use Rattle.text.specs.Lines.{digits, decimal, field, fields, answerLine, numbersLine, pcpuLine}
 
 abbrev pub lines : List Row
 lines =
@@ -16,11 +16,11 @@ lines =
     ∷ rows (decimal (2 ^ 64 - 1)) (ascii "18446744073709551615")
     -- a record: its number, the answer, the moves
     ∷ rows (answerLine 12 5 130) (ascii "12 5 130\n")
-    -- a vCPU and a pCPU that is held, as `trace` writes them, which the requirements do not say
-    ∷ rows (vcpuLine (3 ∷ 0 ∷ 64 ∷ [])) (ascii " 3 0 64\n")
+    -- numbers, and a pCPU that is held, as `trace` writes them, which the requirements do not say
+    ∷ rows (numbersLine (3 ∷ 0 ∷ 64 ∷ [])) (ascii " 3 0 64\n")
     ∷ rows (pcpuLine 63 15 7) (ascii " p 63 15 7\n")
     ∷ []
 
 pub lines-due : AllDue lines
-unfolding ascii digits decimal field fields answerLine vcpuLine pcpuLine
+unfolding ascii digits decimal field fields answerLine numbersLine pcpuLine
 lines-due = refl

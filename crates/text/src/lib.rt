@@ -1,15 +1,15 @@
 //! Lines of decimal numbers, and how a line is put into a slice.
 
 ghost use mathlib.Core.Path.{_≡_};
-ghost use Prim.Native.Nat.{_+_, _*_, _≤_, _<_};
+ghost use Prim.Native.Nat.{_+_, _≤_, _<_};
 ghost use mathlib.Core.List.{[], _∷_};
 ghost use lib.ListN.{length, take};
-ghost use Rattle.text.specs.Lines.{decimal, field, fields, answerLine, vcpuLine, pcpuLine};
+ghost use Rattle.text.specs.Lines.{decimal, field, fields, answerLine, numbersLine, pcpuLine};
 ghost use Rattle.text.specs.Places.{put, Placed, lineOf, appended, endOf};
 
 /// A line: its text is the first `length` bytes.
 pub struct Line {
-    pub bytes: [u8; 176],
+    pub bytes: [u8; 192],
     pub length: usize,
 }
 
@@ -49,16 +49,18 @@ fn put_field(out: &mut [u8], at: usize, n: u64) -> usize
     put_number(out, past, n)
 }
 
-// Puts the first n numbers at index `at`, a space before each.
-fn put_fields(out: &mut [u8], at: usize, numbers: [u64; 8], n: usize) -> usize
-    requires { ⌜ n ≤ 8 ⌝ }
-    requires { ⌜ at + n * 21 ≤ length (now out) ⌝ }
-    ensures { λ r. ⌜ Placed (now (out .entry)) at (fields (take n numbers)) (now (out .exit)) r ⌝ }
-    ensures { λ r. ⌜ r ≤ at + n * 21 ⌝ }
+// Puts the first nine numbers at index `at`, a space before each.
+fn put_fields(out: &mut [u8], at: usize, numbers: &[u64]) -> usize
+    requires { ⌜ at + 189 ≤ length (now out) ⌝ }
+    ensures { λ r. ⌜ Placed (now (out .entry)) at (fields (take 9 (now (numbers .entry)))) (now (out .exit)) r ⌝ }
+    ensures { λ r. ⌜ r ≤ at + 189 ⌝ }
 {
     let mut past = at;
     let mut i: usize = 0;
-    while i < n {
+    while i < 9 {
+        if numbers.len() <= i {
+            return past;
+        }
         past = put_field(out, past, numbers[i]);
         i += 1;
     }
@@ -69,7 +71,7 @@ fn put_fields(out: &mut [u8], at: usize, numbers: [u64; 8], n: usize) -> usize
 pub fn answer_line(number: u64, answer: u64, moves: u64) -> Line
     ensures { λ r. ⌜ r ≡ lineOf (answerLine number answer moves) ⌝ }
 {
-    let mut bytes = [0u8; 176];
+    let mut bytes = [0u8; 192];
     let a = put_number(&mut bytes, 0, number);
     let b = put_field(&mut bytes, a, answer);
     let c = put_field(&mut bytes, b, moves);
@@ -77,12 +79,12 @@ pub fn answer_line(number: u64, answer: u64, moves: u64) -> Line
     Line { bytes, length }
 }
 
-/// A vCPU, by eight numbers, a space before each.
-pub fn vcpu_line(numbers: [u64; 8]) -> Line
-    ensures { λ r. ⌜ r ≡ lineOf (vcpuLine numbers) ⌝ }
+/// The first nine of some numbers, a space before each.
+pub fn numbers_line(numbers: &[u64]) -> Line
+    ensures { λ r. ⌜ r ≡ lineOf (numbersLine (take 9 (now (numbers .entry)))) ⌝ }
 {
-    let mut bytes = [0u8; 176];
-    let a = put_fields(&mut bytes, 0, numbers, 8);
+    let mut bytes = [0u8; 192];
+    let a = put_fields(&mut bytes, 0, numbers);
     let length = put_byte(&mut bytes, a, b'\n');
     Line { bytes, length }
 }
@@ -91,7 +93,7 @@ pub fn vcpu_line(numbers: [u64; 8]) -> Line
 pub fn pcpu_line(pcpu: u64, dom: u64, vcpu: u64) -> Line
     ensures { λ r. ⌜ r ≡ lineOf (pcpuLine pcpu dom vcpu) ⌝ }
 {
-    let mut bytes = [0u8; 176];
+    let mut bytes = [0u8; 192];
     let a = put_byte(&mut bytes, 0, b' ');
     let b = put_byte(&mut bytes, a, b'p');
     let c = put_field(&mut bytes, b, pcpu);
@@ -108,7 +110,7 @@ pub fn append(out: &mut [u8], at: usize, line: Line) -> usize
 {
     let n = line.length;
     let bytes = line.bytes;
-    if 176 < n {
+    if 192 < n {
         return at;
     }
     if out.len() < at {

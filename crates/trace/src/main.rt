@@ -16,7 +16,7 @@ fn stretch(s: Script, input: &mut [u8], output: &mut [u8]) -> Taken {
 
 fn main() {
     let mut input = [0u8; 800];
-    let mut output = [0u8; 1040000];
+    let mut output = [0u8; 1148000];
     let mut s = Script::new();
     // a proved loop has to end, and nothing says that the input does
     let mut turns = u64::MAX;

@@ -33,7 +33,7 @@ found s = numbered (firstViolation s)
 
 -- d/v is in a state, with a mask
 abbrev is : ℕ → ℕ → RunState → ℕ → System → System
-is d v st m s = putVcpu s (slot d v) (record { state = st; runtime = 0; «dispatched_at» = 0; affinity = m })
+is d v st m s = putVcpu s (slot d v) (record { state = st; runtime = 0; «dispatched_at» = 0; affinity = m; last = 64 })
 
 -- pCPU p names d/v
 abbrev names : ℕ → ℕ → ℕ → System → System

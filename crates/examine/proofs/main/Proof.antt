@@ -8,13 +8,13 @@ use Rattle.examine.proofs.main.Statement.{statement}
 use Rattle.examine.proofs.main.Tie as tie
 
 abbrev Inv-loop : tie.InvT-loop
-Inv-loop input₀ output₀ s₀ turns₀ input output s turns = (20 ≡ length input) × (908 ≡ length output)
+Inv-loop input₀ output₀ s₀ turns₀ input output s turns = (20 ≡ length input) × (929 ≡ length output)
 
 abbrev μ-loop : tie.MeasureT-loop
 μ-loop input₀ output₀ s₀ turns₀ input output s turns = turns
 
 loop-holds : tie.Need-loop-holds Inv-loop μ-loop
-loop-holds c = (sym (length-replicate {A = ℕ} 20 0), sym (length-replicate {A = ℕ} 908 0))
+loop-holds c = (sym (length-replicate {A = ℕ} 20 0), sym (length-replicate {A = ℕ} 929 0))
 
 loop-again : tie.Need-loop-again Inv-loop μ-loop
 loop-again c =

@@ -6,7 +6,7 @@ use native.Mathlib.Numerals.{add-one}
 use native.Mathlib.Omega.{arith}
 use borrow.Author.Needs.{needs}
 use Rattle.scan.specs.Scan.{scan}
-use Rattle.moves.specs.Decide.{placement, chosen}
+use Rattle.moves.specs.Decide.{firstIdlePcpuFor, placement, chosen}
 use Rattle.moves.specs.Table.{tabled}
 use Rattle.moves.specs.Internal.{LeadsChosen, none}
 use Rattle.moves.proofs.PlacementLoop.{skips, unplaced, takes, stays}
@@ -24,7 +24,7 @@ unfolding chosen scan
 loop-holds c = (zero-le, none refl refl)
 
 loop-again : tie.Need-loop-again Inv-loop μ-loop
-unfolding tabled placement
+unfolding tabled firstIdlePcpuFor placement
 loop-again c =
     let l = c .before .before .before in
     let a = l .before .args in

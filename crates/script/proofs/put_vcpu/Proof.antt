@@ -4,8 +4,8 @@ use mathlib.Core.Path.{_≡_, _∙_, ap}
 use mathlib.Core.List.{List, [], _∷_}
 use native.Mathlib.Omega.{arith}
 use borrow.Author.Needs.{needs}
-use Rattle.text.specs.Lines.{vcpuLine}
-use Rattle.text.specs.Lengths.{vcpu-line-short}
+use Rattle.text.specs.Lines.{numbersLine}
+use Rattle.text.specs.Lengths.{numbers-line-short}
 use borrow.Author.Tests.{le-ltb, lt-ltb}
 use Rattle.text.specs.Places.{lineOf, placed-none}
 use Rattle.system.specs.declared.VirtualCpu.{VirtualCpu}
@@ -17,7 +17,7 @@ use Rattle.script.proofs.put_vcpu.Tie as tie
 -- the numbers that are computed are those of the definition
 told : (i : ℕ) (v : VirtualCpu) (w : ℕ) {st p t : ℕ} → st ≡ stateNumber (v .state) → p ≡ pcpuNumber (v .state)
     → t ≡ clockNumber (v .«dispatched_at») (v .state)
-    → (i / 8 ∷ i % 8 ∷ st ∷ p ∷ t ∷ v .runtime ∷ v .affinity ∷ w ∷ []) ≡ vcpuNumbers (i / 8) (i % 8) v w
+    → (i / 8 ∷ i % 8 ∷ st ∷ p ∷ t ∷ v .runtime ∷ v .affinity ∷ w ∷ v .last ∷ []) ≡ vcpuNumbers (i / 8) (i % 8) v w
 told i v w e f g = rw (e, f, g)
 
 none : tie.Need-returns
@@ -29,17 +29,17 @@ line : tie.Need-returns-2
 line c =
     let put = c .before .before in
     let made = put .before .before in
-    let clock = made .before in
+    let clock = made .before .before .before in
     let pcpu = clock .before in
     let state = pcpu .before in
     let test = state .before in
     let start = test .before .before in
     let a = start .args in
     let numbers = told (a .i) (a .v) (a .weight) (state .state-number .ensures) (pcpu .pcpu-number .ensures) (clock .clock-number .ensures) in
-    let text = made .vcpu-line .ensures ∙ ap (λ (ns : List ℕ). lineOf (vcpuLine ns)) numbers in
-    let short = vcpu-line-short (vcpuNumbers (a .i / 8) (a .i % 8) (a .v) (a .weight)) in
+    let text = made .numbers-line .ensures ∙ ap (λ (ns : List ℕ). lineOf (numbersLine ns)) numbers in
+    let short = numbers-line-short (vcpuNumbers (a .i / 8) (a .i % 8) (a .v) (a .weight)) in
     rw (lt-ltb (a .i % 8) (a .k) (test .if1 .left))
-    (line-placed (a .out .now) _ (a .at) 169 (made .vcpu-line .result) text short (omega arith) (start .pre) (put .append .ensures .0)
+    (line-placed (a .out .now) _ (a .at) 190 (made .numbers-line .result) text short (omega arith) (start .pre) (put .append .ensures .0)
     (put .append .ensures .1))
 
 pub put-vcpu-spec : {M : Type 1} → statement M
@@ -50,6 +50,8 @@ put-vcpu-spec =
     (λ c κs. search needs)
     (λ c κs. search needs)
     (λ c κs. search needs)
+    (λ c. search needs)
+    (λ c. search needs)
     (λ c κs. search needs)
     (λ c κs. search needs)
     (λ c. search needs)

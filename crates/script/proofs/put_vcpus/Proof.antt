@@ -22,7 +22,7 @@ use Rattle.script.proofs.put_vcpus.Tie as tie
 
 abbrev Inv-loop : tie.InvT-loop
 Inv-loop out₀ at s p n k past₀ i₀ out past i =
-    Placed out₀ at (vcpuRows s p i) out past × (i ≤ n) × (past ≤ at + i * 169) × (lib.ListN.length out ≡ lib.ListN.length out₀)
+    Placed out₀ at (vcpuRows s p i) out past × (i ≤ n) × (past ≤ at + i * 190) × (lib.ListN.length out ≡ lib.ListN.length out₀)
 
 abbrev μ-loop : tie.MeasureT-loop
 μ-loop out₀ at s p n k past₀ i₀ out past i = n - i

@@ -14,7 +14,8 @@ tabled c = record { accounts = rw length-map at (c .good .1 .0 .1 .1 .1 .1 .0 .1
 returns : tie.Need-returns
 unfolding kept vcpuAt
 returns c =
-    let snapshot = c .before in
+    let boost = c .before in
+    let snapshot = boost .before in
     let fourth = snapshot .before in
     let third = fourth .before in
     let second = third .before in
@@ -23,7 +24,7 @@ returns c =
     let slot = weight .before .before .before .before in
     let s = slot .before in
     rw
-    (c .bit2 .ensures, snapshot .bit .ensures, fourth .wide5 .ensures, third .wide4 .ensures, second .wide3 .ensures, first .wide2 .ensures, weight .wide .ensures, slot .slot-of .ensures, stored (s .args .t2) (s .args .dom) (s .args .vcpu) (tabled s))
+    (c .wide6 .ensures, boost .bit2 .ensures, snapshot .bit .ensures, fourth .wide5 .ensures, third .wide4 .ensures, second .wide3 .ensures, first .wide2 .ensures, weight .wide .ensures, slot .slot-of .ensures, stored (s .args .t2) (s .args .dom) (s .args .vcpu) (tabled s))
 
 pub kept-spec : {M : Type 1} → statement M
 kept-spec =
@@ -42,6 +43,7 @@ kept-spec =
     (λ c. search needs)
     (λ c κs. search needs)
     (λ c. search needs)
+    (λ c κs. search needs)
     (λ c κs. search needs)
     (λ c κs. search needs)
     (λ c κs. search needs)

@@ -12,12 +12,12 @@ use Rattle.test_reads.proofs.reads.Statement.{statement}
 use Rattle.test_reads.proofs.reads.Tie as tie
 
 -- without room nothing is done
-crowded : (out t : List ℕ) (at : ℕ) → length out < at + 845 → (out ≡ readsPut out at t) × (at ≡ readsEnd out at t)
-crowded out t at h = rw (lt-leb (at + 845) (length out) h) (refl, refl)
+crowded : (out t : List ℕ) (at : ℕ) → length out < at + 866 → (out ≡ readsPut out at t) × (at ≡ readsEnd out at t)
+crowded out t at h = rw (lt-leb (at + 866) (length out) h) (refl, refl)
 
-roomy : (out t : List ℕ) (at : ℕ) {after : List ℕ} {end : ℕ} → at + 845 ≤ length out → Placed out at t after end
+roomy : (out t : List ℕ) (at : ℕ) {after : List ℕ} {end : ℕ} → at + 866 ≤ length out → Placed out at t after end
     → (after ≡ readsPut out at t) × (end ≡ readsEnd out at t)
-roomy out t at h p = rw (le-leb (at + 845) (length out) h) (p .bytes, p .past)
+roomy out t at h p = rw (le-leb (at + 866) (length out) h) (p .bytes, p .past)
 
 returns : tie.Need-returns
 returns c = let a = c .before .before .args in crowded (a .out .now) (readsText (a .h .system) (a .h .scheduler) (a .q)) (a .at) (omega arith)

@@ -13,11 +13,11 @@ use Rattle.text.proofs.append.Statement.{statement}
 use Rattle.text.proofs.append.Tie as tie
 
 -- where the line has no room, nothing is done
-cut : (out : List ℕ) (at : ℕ) (l : Line) → 176 < l .length → (out ≡ appended out at l) × (at ≡ endOf out at l)
-cut out at l h = rw (lt-leb (l .length) 176 h) (refl, refl)
+cut : (out : List ℕ) (at : ℕ) (l : Line) → 192 < l .length → (out ≡ appended out at l) × (at ≡ endOf out at l)
+cut out at l h = rw (lt-leb (l .length) 192 h) (refl, refl)
 
-crowded : (out : List ℕ) (at : ℕ) (l : Line) → l .length ≤ 176 → length out < at + l .length → (out ≡ appended out at l) × (at ≡ endOf out at l)
-crowded out at l w h = rw (le-leb (l .length) 176 w, lt-leb (at + l .length) (length out) h) (refl, refl)
+crowded : (out : List ℕ) (at : ℕ) (l : Line) → l .length ≤ 192 → length out < at + l .length → (out ≡ appended out at l) × (at ≡ endOf out at l)
+crowded out at l w h = rw (le-leb (l .length) 192 w, lt-leb (at + l .length) (length out) h) (refl, refl)
 
 returns : tie.Need-returns
 returns c = let a = c .before .before .before in cut (a .args .out .now) (a .args .at) (a .args .line) (c .if1 .taken)
@@ -35,7 +35,7 @@ returns-3 c =
 within : tie.Need-array-share-prefix-bytes
 within c =
     let a = c .before .before .before .before .before .before in
-    let long : length (a .args .line .bytes) ≡ 176 = rw length-map at (a .good .1 .1 .0 .1 .1 .0 .1 .0 .1) in
+    let long : length (a .args .line .bytes) ≡ 192 = rw length-map at (a .good .1 .1 .0 .1 .1 .0 .1 .0 .1) in
     subst (λ (n : ℕ). a .args .line .length ≤ n) (sym long) (omega arith)
 
 whole : tie.Need-slice-aggregate-put-text
@@ -48,7 +48,7 @@ returns-4 : tie.Need-returns-4
 returns-4 c =
     let put = c .before .before in
     let a = put .before .before .before .before .before .before .before .before in
-    rw (le-leb (a .args .line .length) 176 (omega arith), le-leb (a .args .at + a .args .line .length) (length (a .args .out .now)) (omega arith))
+    rw (le-leb (a .args .line .length) 192 (omega arith), le-leb (a .args .at + a .args .line .length) (length (a .args .out .now)) (omega arith))
     (put .put-text .ensures, refl)
 
 pub append-spec : {M : Type 1} → statement M

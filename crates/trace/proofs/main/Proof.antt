@@ -8,13 +8,13 @@ use Rattle.trace.proofs.main.Statement.{statement}
 use Rattle.trace.proofs.main.Tie as tie
 
 abbrev Inv-loop : tie.InvT-loop
-Inv-loop input₀ output₀ s₀ turns₀ input output s turns = (800 ≡ length input) × (1040000 ≡ length output)
+Inv-loop input₀ output₀ s₀ turns₀ input output s turns = (800 ≡ length input) × (1148000 ≡ length output)
 
 abbrev μ-loop : tie.MeasureT-loop
 μ-loop input₀ output₀ s₀ turns₀ input output s turns = turns
 
 loop-holds : tie.Need-loop-holds Inv-loop μ-loop
-loop-holds c = (sym (length-replicate {A = ℕ} 800 0), sym (length-replicate {A = ℕ} 1040000 0))
+loop-holds c = (sym (length-replicate {A = ℕ} 800 0), sym (length-replicate {A = ℕ} 1148000 0))
 
 loop-again : tie.Need-loop-again Inv-loop μ-loop
 loop-again c =
