@@ -3,7 +3,8 @@
 
   bench/times.py PORT UPSTREAM     two folders
 
-PORT has bench_calls, bench_advance and replay; UPSTREAM has calls, advances and reference. bench/run makes them all.
+PORT has bench_calls, bench_advance, bench_usage and replay; UPSTREAM has calls, advances, reference, and usage, which
+upstream has not: it is written here in plain Rust. bench/run makes them all.
 What the port writes is compared with what upstream gives. A script is timed on upstream alone, `reference plain`, whose
 placements are always on the lowest pCPU; `reference replay`, which is not timed, says what the port has to write.
 """
@@ -20,6 +21,7 @@ FULL, SMALL = (16, 8, 64), (4, 2, 4)
 ALL = 2**64 - 1
 # an advance is timed on these shapes, so many times
 ADVANCES = [(20_000, FULL), (20_000, (16, 8, 8)), (100_000, (2, 8, 4)), (200_000, (1, 2, 1))]
+USAGE_FILES = 300_000
 ROUNDS = 5
 
 
@@ -81,6 +83,9 @@ def timed(port, upstream):
     for times, (domains, vcpus, pcpus) in ADVANCES:
         name = f"advance, {domains * vcpus} vCPUs on {pcpus} pCPU{'s' * (pcpus > 1)}"
         yield name, advances, struct.pack(">IBBB", times, domains, vcpus, pcpus), times
+    usage = [port / "bench_usage"], [upstream / "usage"], [upstream / "usage"]
+    for kind, name in enumerate(["usage file written", "usage file opened"]):
+        yield f"{name}, 128 vCPUs", usage, struct.pack(">IB", USAGE_FILES, kind), USAGE_FILES
     reference = upstream / "reference"
     replays = [port / "replay"], [reference, "plain"], [reference, "replay"]
     for name, data in scripts():

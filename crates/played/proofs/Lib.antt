@@ -1,4 +1,3 @@
-mod Fields
 mod Plans
 pub mod Played
 pub mod Stretches

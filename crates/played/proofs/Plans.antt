@@ -17,8 +17,9 @@ use Rattle.records.specs.declared.MaybeCall.{MaybeCall}
 use Rattle.records.specs.declared.Shape.{Shape}
 use Rattle.records.specs.declared.Plan.{Plan}
 use Rattle.records.specs.Records.{recordOf, callsOf, callOf, shapeOf, buildOf, afterBuild, planOf}
-use Rattle.played.specs.Played.{AllBytes, Sized}
-use Rattle.played.proofs.Fields.{number-below}
+use Rattle.big_endian.specs.Numbers.{AllBytes}
+use Rattle.big_endian.specs.Laws.{number-below}
+use Rattle.played.specs.Played.{Sized}
 
 pub data Fit (built : Bool) : Plan → Type 0 where
   refuse : (a : Answer) → Fit built (Plan.Refuse a)

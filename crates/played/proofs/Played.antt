@@ -17,8 +17,9 @@ use Rattle.records.specs.declared.Plan.{Plan}
 use Rattle.script.specs.declared.Script.{Script}
 use Rattle.script.specs.Script.{begun, carried, builtAfter, scriptNext, lineTold, hostShown, entry, scriptAfter, text}
 use Rattle.played.specs.Played.{Played, nothing, with, planAt, played, hostBuilt, hostOf, answerTo, movesOf, lineOf, written}
-use Rattle.played.specs.Played.{AllBytes, Sized, EveryScript}
-use Rattle.played.proofs.Fields.{bytes-left}
+use Rattle.big_endian.specs.Numbers.{AllBytes}
+use Rattle.big_endian.specs.Laws.{bytes-left}
+use Rattle.played.specs.Played.{Sized, EveryScript}
 use Rattle.played.proofs.Plans.{Fit, refuse, build, call, plan-fits}
 
 -- the script after n records that came to r

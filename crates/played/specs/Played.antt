@@ -5,6 +5,7 @@ use mathlib.Core.Bool.{Bool, true, false, cond, _&&_}
 use mathlib.Core.Path.{_≡_}
 use mathlib.Core.List.{List, [], _∷_, _++_}
 use lib.ListN.{length, drop}
+use Rattle.big_endian.specs.Numbers.{AllBytes}
 use Rattle.system.specs.declared.Answer.the-variants.{Done}
 use Rattle.system.specs.Answers.{told}
 use Rattle.host.specs.declared.Host.{Host}
@@ -82,11 +83,6 @@ shown states r = cond (states && r .built) (hostText (hostOf r)) []
 unfoldable pub written : Bool → List ℕ → ℕ → List ℕ
 written states bs zero = []
 written states bs (suc n) = written states bs n ++ (lineOf bs n ++ shown states (played bs (suc n)))
-
--- each is a byte
-abbrev pub AllBytes : List ℕ → Type 0
-AllBytes [] = Unit {0}
-AllBytes (b ∷ bs) = (b < 256) × AllBytes bs
 
 -- a shape within the sizes, with a slice of 64 bits
 pub record Sized (s : Shape) : Type 0 where

@@ -9,7 +9,8 @@ use lib.ListN.{length, take}
 use Rattle.script.specs.declared.Script.{Script}
 use Rattle.script.specs.declared.Taken.{Taken}
 use Rattle.script.specs.Script.{begun, scriptAfter, room, taken, Replayed}
-use Rattle.played.specs.Played.{AllBytes, written, AsPlayed}
+use Rattle.big_endian.specs.Numbers.{AllBytes}
+use Rattle.played.specs.Played.{written, AsPlayed}
 
 -- the bytes read so far, how many records they are, the text written so far, and the script held, where each stretch is handed to
 -- `script::replay`, which keeps its contract

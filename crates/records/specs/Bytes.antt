@@ -1,11 +1,7 @@
 -- A record as its 20 bytes, for tables and examples.
-use Prim.Native.Nat.{ℕ, zero, suc, _/_, _%_, _^_}
-use mathlib.Core.List.{List, [], _∷_, _++_}
-
--- the n bytes of x, the most significant first
-unfoldable pub bytes : ℕ → ℕ → List ℕ
-bytes zero x = []
-bytes (suc n) x = x / 256 ^ n % 256 ∷ bytes n x
+use Prim.Native.Nat.{ℕ}
+use mathlib.Core.List.{List, _++_}
+use Rattle.big_endian.specs.Numbers.{bytes}
 
 -- kind (2 bytes), domain (2), vCPU (4), third (4), value (8)
 abbrev pub bytesOf : ℕ → ℕ → ℕ → ℕ → ℕ → List ℕ

@@ -1,18 +1,13 @@
 -- A record is read from its own 20 bytes, whatever follows them. Assumes nothing.
-use Prim.Native.Nat.{ℕ, zero, suc, _+_, _*_, _≤_}
+use Prim.Native.Nat.{ℕ, _≤_}
 use mathlib.Core.Bool.{Bool}
-use mathlib.Core.Path.{_≡_, refl, ap, ap₂}
+use mathlib.Core.Path.{_≡_, ap}
 use mathlib.Core.List.{List, _++_}
 use native.Mathlib.Omega.{arith}
-use lib.ListN.{length, length-append, List·getD-append}
+use lib.ListN.{length, length-append}
 use borrow.Author.Tests.{le-ltb}
-use Rattle.records.specs.Records.{number, recordOf, planned, planOf}
-
-number-front : (bs cs : List ℕ) (at n : ℕ) → at + n ≤ length bs → number (bs ++ cs) at n ≡ number bs at n
-unfolding number
-number-front bs cs at zero l = refl
-number-front bs cs at (suc n) l =
-    ap₂ (λ (x y : ℕ). x * 256 + y) (number-front bs cs at n (omega arith)) (List·getD-append bs cs 0 (at + n) (omega arith))
+use Rattle.big_endian.specs.Laws.{number-front}
+use Rattle.records.specs.Records.{recordOf, planned, planOf}
 
 record-front : (bs cs : List ℕ) → 20 ≤ length bs → recordOf (bs ++ cs) ≡ recordOf bs
 record-front bs cs l =

@@ -1,9 +1,10 @@
 -- A record of a script: 20 bytes, each field with its most significant byte first.
-use Prim.Native.Nat.{ℕ, zero, suc, _+_, _*_}
+use Prim.Native.Nat.{ℕ}
 use mathlib.Core.Bool.{Bool, cond, not}
 use mathlib.Core.List.{List, [], _∷_}
 use lib.Dec.{ltb, leb, eqb}
 use lib.ListN.{length, getD}
+use Rattle.big_endian.specs.Numbers.{number}
 use Rattle.system.specs.declared.Answer.the-variants.{TooLarge, BadScript}
 use Rattle.system.specs.Shape.{withinSizes}
 use Rattle.host.specs.declared.Call.{Call}
@@ -11,11 +12,6 @@ use Rattle.records.specs.declared.Record.{Record}
 use Rattle.records.specs.declared.MaybeCall.{MaybeCall}
 use Rattle.records.specs.declared.Shape.{Shape}
 use Rattle.records.specs.declared.Plan.{Plan}
-
--- what n bytes from index `at` on say
-unfoldable pub number : List ℕ → ℕ → ℕ → ℕ
-number bs at zero = 0
-number bs at (suc n) = number bs at n * 256 + getD bs (at + n) 0
 
 abbrev pub recordOf : List ℕ → Record
 recordOf bs =

@@ -7,8 +7,9 @@ use lib.ListN.{take}
 use Rattle.system.specs.declared.Answer.the-variants.{TooLarge, BadScript}
 use Rattle.host.specs.declared.Call.{Call}
 use Rattle.records.specs.declared.Plan.{Plan}
-use Rattle.records.specs.Bytes.{bytes, bytesOf}
-use Rattle.records.specs.Records.{number, planOf}
+use Rattle.big_endian.specs.Numbers.{bytes, number}
+use Rattle.records.specs.Bytes.{bytesOf}
+use Rattle.records.specs.Records.{planOf}
 
 -- what a record is for, and what it has to be for
 pub record PlanRow : Type 0 where

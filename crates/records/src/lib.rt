@@ -3,7 +3,8 @@
 ghost use mathlib.Core.Path.{_≡_};
 ghost use Prim.Native.Nat.{_+_, _^_, _≤_, _<_};
 ghost use lib.ListN.{length};
-ghost use Rattle.records.specs.Records.{number, recordOf, recordAt, callOf, buildOf, afterBuild, planOf};
+ghost use Rattle.big_endian.specs.Numbers.{number};
+ghost use Rattle.records.specs.Records.{recordOf, recordAt, callOf, buildOf, afterBuild, planOf};
 use host::Call;
 use system::Answer;
 

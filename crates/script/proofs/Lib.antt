@@ -1,3 +1,2 @@
 pub mod Laws
-mod LineAppends
 mod ReplayLoop

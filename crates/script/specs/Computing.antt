@@ -1,7 +1,7 @@
 -- The definitions by which a script computes, said once: to unfold `replaying` is to unfold each of them.
 use Rattle.host.specs.Computing.{computing}
-use Rattle.records.specs.Bytes.{bytes}
-use Rattle.records.specs.Records.{number, planOf}
+use Rattle.big_endian.specs.Numbers.{bytes, number}
+use Rattle.records.specs.Records.{planOf}
 use Rattle.text.specs.Ascii.{ascii}
 use Rattle.text.specs.Lines.{digits, decimal, field, fields, answerLine, numbersLine, pcpuLine}
 use Rattle.script.specs.HostText.{vcpuRows, pcpuRows, hostText}

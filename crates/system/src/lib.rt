@@ -84,6 +84,8 @@ pub enum Answer {
     TooLarge,
     Unsound,
     BadScript,
+    BadFile,
+    NotInFile,
 }
 
 /// The number by which an answer is told.
@@ -104,6 +106,8 @@ pub fn number_of(answer: Answer) -> u64
         Answer::FoundOffline => 10,
         Answer::FoundRunning => 11,
         Answer::FoundBlocked => 12,
+        Answer::BadFile => 13,
+        Answer::NotInFile => 14,
     }
 }
 

@@ -5,7 +5,7 @@ use mathlib.Core.List.{List, [], _∷_, _++_}
 use native.Mathlib.Omega.{arith}
 use lib.Dec.{ltb}
 use lib.ListN.{length, length-append}
-use Rattle.text.specs.Lines.{digits, decimal, field, fields, answerLine, numbersLine, pcpuLine}
+use Rattle.text.specs.Lines.{digits, decimal, wideDecimal, field, fields, answerLine, numbersLine, pcpuLine, usageLine}
 
 digits-short : (f n : ℕ) → length (digits f n) ≤ f
 unfolding digits
@@ -20,6 +20,10 @@ digits-short (suc f) n = go (ltb n 10) (digits-short f (n / 10))
 pub decimal-short : (n : ℕ) → length (decimal n) ≤ 20
 unfolding decimal
 decimal-short n = digits-short 20 n
+
+wide-decimal-short : (n : ℕ) → length (wideDecimal n) ≤ 39
+unfolding wideDecimal
+wide-decimal-short n = digits-short 39 n
 
 pub field-short : (n : ℕ) → length (field n) ≤ 21
 unfolding field
@@ -54,3 +58,12 @@ pcpu-line-short p d v =
     let a = longer mark (field p) 2 21 (omega arith) (field-short p) in
     let b = longer (mark ++ field p) (field d) 23 21 a (field-short d) in
     ended (mark ++ field p ++ field d ++ field v) 65 (longer (mark ++ field p ++ field d) (field v) 44 21 b (field-short v))
+
+pub usage-line-short : (d v w s : ℕ) → length (usageLine d v w s) ≤ 103
+unfolding usageLine
+usage-line-short d v w s =
+    let a = longer (decimal d) (field v) 20 21 (decimal-short d) (field-short v) in
+    let b = longer (decimal d ++ field v) (field w) 41 21 a (field-short w) in
+    let c = longer (decimal d ++ field v ++ field w) (32 ∷ []) 62 1 b (omega arith) in
+    ended (decimal d ++ field v ++ field w ++ (32 ∷ []) ++ wideDecimal s) 102
+    (longer (decimal d ++ field v ++ field w ++ (32 ∷ [])) (wideDecimal s) 63 39 c (wide-decimal-short s))

@@ -16,6 +16,10 @@ digits (suc k) n = cond (ltb n 10) ((48 + n) ∷ []) (digits k (n / 10) ++ ((48 
 unfoldable pub decimal : ℕ → List ℕ
 decimal n = digits 20 n
 
+-- a 128-bit number in decimal: 39 digits hold any
+unfoldable pub wideDecimal : ℕ → List ℕ
+wideDecimal n = digits 39 n
+
 -- a number after a space
 unfoldable pub field : ℕ → List ℕ
 field n = 32 ∷ decimal n
@@ -35,6 +39,11 @@ numbersLine ns = fields ns ++ (10 ∷ [])
 -- an occupied pCPU and its holder
 unfoldable pub pcpuLine : ℕ → ℕ → ℕ → List ℕ
 pcpuLine p d v = (32 ∷ []) ++ (112 ∷ []) ++ field p ++ field d ++ field v ++ (10 ∷ [])
+
+-- what a usage file says of a vCPU: whose it is, its weight and its service
+unfoldable pub usageLine : ℕ → ℕ → ℕ → ℕ → List ℕ
+usageLine domain vcpu weight service =
+    decimal domain ++ field vcpu ++ field weight ++ (32 ∷ []) ++ wideDecimal service ++ (10 ∷ [])
 
 fields-append : (ms ns : List ℕ) → fields (ms ++ ns) ≡ fields ms ++ fields ns
 unfolding fields

@@ -80,3 +80,12 @@ pub append-placed : (out t : List ℕ) (at : ℕ) → length t ≤ 192 → at + 
 append-placed out t at short room =
     rw (le-leb (length t) 192 short, le-leb (at + length t) (length out) room)
     (record { bytes = ap (put out at) (take-append-seam t (drop (0 + length t) (replicate 192 0))); past = refl })
+
+-- a line of known text put where there is room for k bytes
+pub line-placed : (out t : List ℕ) (at k : ℕ) (l : Line) {after : List ℕ} {end : ℕ} → l ≡ lineOf t → length t ≤ k → k ≤ 192
+    → at + k ≤ length out → after ≡ appended out at l → end ≡ endOf out at l → Placed out at t after end × (end ≤ at + k)
+line-placed out t at k l {after} {end} e short most room o p =
+    let there = append-placed out t at (omega arith) (omega arith) in
+    let bytes = o ∙ ap (appended out at) e ∙ there .bytes in
+    let past = p ∙ ap (endOf out at) e ∙ there .past in
+    (record { bytes = bytes; past = past }, omega (arith, past))

@@ -1,11 +1,14 @@
-//! Lines of decimal numbers, and how a line is put into a slice.
+//! Lines of decimal numbers, how a line is put into a slice, and the number that a word says.
 
 ghost use mathlib.Core.Path.{_≡_};
-ghost use Prim.Native.Nat.{_+_, _≤_, _<_};
+ghost use Prim.Native.Nat.{_+_, _/_, _%_, _≤_, _<_};
 ghost use mathlib.Core.List.{[], _∷_};
 ghost use lib.ListN.{length, take};
-ghost use Rattle.text.specs.Lines.{decimal, field, fields, answerLine, numbersLine, pcpuLine};
+ghost use Rattle.service.specs.Service.{value};
+ghost use Rattle.text.specs.Lines.{digits, decimal, wideDecimal, field, fields, answerLine, numbersLine, pcpuLine, usageLine};
+ghost use Rattle.text.specs.Numerals.{numberIn};
 ghost use Rattle.text.specs.Places.{put, Placed, lineOf, appended, endOf};
+use service::Service;
 
 /// A line: its text is the first `length` bytes.
 pub struct Line {
@@ -67,6 +70,45 @@ fn put_fields(out: &mut [u8], at: usize, numbers: &[u64]) -> usize
     past
 }
 
+// The last digit of n, as text: 2^32 ends in 6, and so does each power of it.
+fn last_digit(n: Service) -> u8
+    ensures { λ r. ⌜ r ≡ 48 + value n % 10 ⌝ }
+{
+    let upper = n[1] as u64 + n[2] as u64 + n[3] as u64;
+    b'0' + ((upper * 6 + n[0] as u64) % 10) as u8
+}
+
+fn tenth(n: Service) -> Service
+    ensures { λ r. ⌜ value r ≡ value n / 10 ⌝ }
+{
+    service::quotient(n, 10)
+}
+
+// Puts the last of n's decimal digits, at most k of them, at index `at`.
+fn put_digits(out: &mut [u8], at: usize, k: usize, n: Service) -> usize
+    requires { ⌜ at + k ≤ length (now out) ⌝ }
+    ensures { λ r. ⌜ Placed (now (out .entry)) at (digits k (value n)) (now (out .exit)) r ⌝ }
+    ensures { λ r. ⌜ r ≤ at + k ⌝ }
+{
+    if k == 0 {
+        return at;
+    }
+    let last = last_digit(n);
+    if service::less(n, [10, 0, 0, 0]) {
+        return put_byte(out, at, last);
+    }
+    let past = put_digits(out, at, k - 1, tenth(n));
+    put_byte(out, past, last)
+}
+
+fn put_wide(out: &mut [u8], at: usize, n: Service) -> usize
+    requires { ⌜ at + 39 ≤ length (now out) ⌝ }
+    ensures { λ r. ⌜ Placed (now (out .entry)) at (wideDecimal (value n)) (now (out .exit)) r ⌝ }
+    ensures { λ r. ⌜ r ≤ at + 39 ⌝ }
+{
+    put_digits(out, at, 39, n)
+}
+
 /// What a record is told: its number, the answer and the moves.
 pub fn answer_line(number: u64, answer: u64, moves: u64) -> Line
     ensures { λ r. ⌜ r ≡ lineOf (answerLine number answer moves) ⌝ }
@@ -103,6 +145,20 @@ pub fn pcpu_line(pcpu: u64, dom: u64, vcpu: u64) -> Line
     Line { bytes, length }
 }
 
+/// What a usage file says of a vCPU: whose it is, its weight and its service.
+pub fn usage_line(domain: u64, vcpu: u64, weight: u64, service: Service) -> Line
+    ensures { λ r. ⌜ r ≡ lineOf (usageLine domain vcpu weight (value service)) ⌝ }
+{
+    let mut bytes = [0u8; 192];
+    let a = put_number(&mut bytes, 0, domain);
+    let b = put_field(&mut bytes, a, vcpu);
+    let c = put_field(&mut bytes, b, weight);
+    let d = put_byte(&mut bytes, c, b' ');
+    let e = put_wide(&mut bytes, d, service);
+    let length = put_byte(&mut bytes, e, b'\n');
+    Line { bytes, length }
+}
+
 /// Puts a line at index `at`, if it fits there, and answers the index past it.
 pub fn append(out: &mut [u8], at: usize, line: Line) -> usize
     ensures { λ r. ⌜ now (out .exit) ≡ appended (now (out .entry)) at line ⌝ }
@@ -121,4 +177,37 @@ pub fn append(out: &mut [u8], at: usize, line: Line) -> usize
     }
     put_text(out, at, &bytes[..n]);
     at + n
+}
+
+/// A number, or none.
+pub enum MaybeNumber {
+    None,
+    Some(u64),
+}
+
+/// The number that a word of decimal digits says, if it is one of 64 bits; leading zeros are fine.
+pub fn number_in(word: &[u8]) -> MaybeNumber
+    ensures { λ r. ⌜ r ≡ numberIn (now (word .entry)) ⌝ }
+{
+    if word.len() == 0 {
+        return MaybeNumber::None;
+    }
+    let mut n: u64 = 0;
+    let mut i: usize = 0;
+    while i < word.len() {
+        let b = word[i];
+        if b < b'0' {
+            return MaybeNumber::None;
+        }
+        if b'9' < b {
+            return MaybeNumber::None;
+        }
+        let digit = (b - b'0') as u64;
+        if (u64::MAX - digit) / 10 < n {
+            return MaybeNumber::None;
+        }
+        n = n * 10 + digit;
+        i += 1;
+    }
+    MaybeNumber::Some(n)
 }

@@ -16,7 +16,7 @@ use Rattle.changes.specs.Records.{left}
 use Rattle.usage.specs.Usage.{sum, usage}
 
 -- d/v in a state, with so much run time; its last dispatch was at 100
-abbrev is : ℕ → ℕ → RunState → ℕ → System → System
+abbrev pub is : ℕ → ℕ → RunState → ℕ → System → System
 is d v st time s = putVcpu s (slot d v) (record { state = st; runtime = time; «dispatched_at» = 100; affinity = 0; last = 64 })
 
 -- 3 domains of 3 vCPUs: of domain 0 nobody is Running, of domain 1 two are, of domain 2 one; 1/3 and 3/0 are outside the shape

@@ -3,7 +3,7 @@ use native.Mathlib.Omega.{arith}
 use borrow.Author.Needs.{needs}
 use Rattle.text.specs.Lines.{answerLine}
 use Rattle.text.specs.Lengths.{answer-line-short}
-use Rattle.script.proofs.Laws.{line-placed}
+use Rattle.text.specs.Places.{line-placed}
 use Rattle.examine.proofs.put_answer.Statement.{statement}
 use Rattle.examine.proofs.put_answer.Tie as tie
 

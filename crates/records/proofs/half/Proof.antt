@@ -2,7 +2,7 @@
 use Prim.Native.Nat.{_+_}
 use native.Mathlib.Omega.{arith}
 use borrow.Author.Needs.{needs}
-use Rattle.records.proofs.Numbers.{number-add, number-one}
+use Rattle.big_endian.specs.Laws.{number-add, number-one}
 use Rattle.records.proofs.half.Statement.{statement}
 use Rattle.records.proofs.half.Tie as tie
 

@@ -3,8 +3,8 @@ use Prim.Native.Nat.{_+_, _*_, _^_}
 use mathlib.Core.Path.{_≡_}
 use native.Mathlib.Omega.{arith}
 use borrow.Author.Needs.{needs}
-use Rattle.records.specs.Records.{number}
-use Rattle.records.proofs.Numbers.{number-add}
+use Rattle.big_endian.specs.Numbers.{number}
+use Rattle.big_endian.specs.Laws.{number-add}
 use Rattle.records.proofs.record_of.Statement.{statement}
 use Rattle.records.proofs.record_of.Tie as tie
 

@@ -1,7 +1,7 @@
 -- `records::word` meets its contract. Assumes nothing.
 use native.Mathlib.Omega.{arith}
 use borrow.Author.Needs.{needs}
-use Rattle.records.proofs.Numbers.{number-add}
+use Rattle.big_endian.specs.Laws.{number-add}
 use Rattle.records.proofs.word.Statement.{statement}
 use Rattle.records.proofs.word.Tie as tie
 

@@ -6,8 +6,7 @@ use borrow.Author.Needs.{needs}
 use Rattle.system.specs.Answers.{told}
 use Rattle.text.specs.Lines.{answerLine}
 use Rattle.text.specs.Lengths.{answer-line-short}
-use Rattle.text.specs.Places.{lineOf}
-use Rattle.script.proofs.LineAppends.{line-placed}
+use Rattle.text.specs.Places.{lineOf, line-placed}
 use Rattle.script.proofs.put_answer.Statement.{statement}
 use Rattle.script.proofs.put_answer.Tie as tie
 

@@ -7,9 +7,8 @@ use borrow.Author.Needs.{needs}
 use Rattle.text.specs.Lines.{pcpuLine}
 use Rattle.text.specs.Lengths.{pcpu-line-short}
 use Rattle.system.specs.declared.Occupant.{Occupant}
-use Rattle.text.specs.Places.{Placed, placed-none}
+use Rattle.text.specs.Places.{Placed, placed-none, line-placed}
 use Rattle.script.specs.HostText.{pcpuRow}
-use Rattle.script.proofs.LineAppends.{line-placed}
 use Rattle.script.proofs.put_pcpu.Statement.{statement}
 use Rattle.script.proofs.put_pcpu.Tie as tie
 

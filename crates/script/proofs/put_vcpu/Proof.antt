@@ -7,10 +7,9 @@ use borrow.Author.Needs.{needs}
 use Rattle.text.specs.Lines.{numbersLine}
 use Rattle.text.specs.Lengths.{numbers-line-short}
 use borrow.Author.Tests.{le-ltb, lt-ltb}
-use Rattle.text.specs.Places.{lineOf, placed-none}
+use Rattle.text.specs.Places.{lineOf, placed-none, line-placed}
 use Rattle.system.specs.declared.VirtualCpu.{VirtualCpu}
 use Rattle.script.specs.HostText.{stateNumber, pcpuNumber, clockNumber, vcpuNumbers}
-use Rattle.script.proofs.LineAppends.{line-placed}
 use Rattle.script.proofs.put_vcpu.Statement.{statement}
 use Rattle.script.proofs.put_vcpu.Tie as tie
 

@@ -39,6 +39,10 @@ number-of-spec =
     (λ c. search needs)
     (λ c. search needs)
     (λ c. search needs)
+    (λ c. search needs)
+    (λ c. search needs)
     found-offline
     found-running
-    found-blocked)
+    found-blocked
+    (λ c. search needs)
+    (λ c. search needs))

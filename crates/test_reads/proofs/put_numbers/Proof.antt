@@ -8,8 +8,7 @@ use native.Mathlib.Omega.{arith}
 use borrow.Author.Needs.{needs}
 use Rattle.text.specs.Lines.{numbersLine}
 use Rattle.text.specs.Lengths.{numbers-line-short}
-use Rattle.text.specs.Places.{lineOf}
-use Rattle.script.proofs.Laws.{line-placed}
+use Rattle.text.specs.Places.{lineOf, line-placed}
 use Rattle.test_reads.proofs.put_numbers.Statement.{statement}
 use Rattle.test_reads.proofs.put_numbers.Tie as tie
 

@@ -1,0 +1,2 @@
+pub mod Domains
+pub mod Refusals

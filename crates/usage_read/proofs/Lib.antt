@@ -1,0 +1,3 @@
+mod Opened
+mod Readers
+mod Walks

@@ -1,0 +1,2 @@
+pub mod BodyText
+pub mod Rows

@@ -1,0 +1,5 @@
+mod Stores
+mod Limbs
+mod Sizes
+mod FileLoop
+mod Elements
