@@ -3,8 +3,8 @@
 
   bench/times.py PORT UPSTREAM     two folders
 
-PORT has bench_calls, bench_advance, bench_usage and replay; UPSTREAM has calls, advances, reference, and usage, which
-upstream has not: it is written here in plain Rust. bench/run makes them all.
+PORT has bench_calls, bench_advance, bench_usage, load and replay; UPSTREAM has calls, advances, reference, and usage and
+load, which upstream has not: they are written here in plain Rust. bench/run makes them all.
 What the port writes is compared with what upstream gives. A script is timed on upstream alone, `reference plain`, whose
 placements are always on the lowest pCPU; `reference replay`, which is not timed, says what the port has to write.
 """
@@ -22,6 +22,7 @@ ALL = 2**64 - 1
 # an advance is timed on these shapes, so many times
 ADVANCES = [(20_000, FULL), (20_000, (16, 8, 8)), (100_000, (2, 8, 4)), (200_000, (1, 2, 1))]
 USAGE_FILES = 300_000
+LOAD_CALLS = 1_000_000
 ROUNDS = 5
 
 
@@ -59,9 +60,17 @@ def repeated(*calls, times=150_000):
     return b"".join(busy(FULL)) + b"".join(calls) * times
 
 
-def scripts():
+def load(shape):
+    """The numbers of a load, as words."""
+    return [str(n) for n in (1, *shape, 10, LOAD_CALLS)]
+
+
+def scripts(port):
     """Scripts that are timed: name and records."""
     last = (15, 7)
+    for shape in (FULL, SMALL):
+        made = subprocess.run([port / "load", *load(shape)], stdout=subprocess.PIPE, check=True).stdout
+        yield f"load, {shape[0] * shape[1]} vCPUs on {shape[2]} pCPUs", made
     yield "script, 128 vCPUs on 64 pCPUs, an advance in 100 calls", steady(FULL, 1_000_000, 100)
     yield "script, 8 vCPUs on 4 pCPUs, an advance in 10 calls", steady(SMALL, 1_000_000, 10)
     yield "admit (a build every 129)", b"".join(admitted(FULL)) * 2000
@@ -86,9 +95,11 @@ def timed(port, upstream):
     usage = [port / "bench_usage"], [upstream / "usage"], [upstream / "usage"]
     for kind, name in enumerate(["usage file written", "usage file opened"]):
         yield f"{name}, 128 vCPUs", usage, struct.pack(">IB", USAGE_FILES, kind), USAGE_FILES
+    loads = [[folder / "load", *load(FULL)] for folder in (port, upstream, upstream)]
+    yield "load made, 128 vCPUs on 64 pCPUs", loads, b"", LOAD_CALLS
     reference = upstream / "reference"
     replays = [port / "replay"], [reference, "plain"], [reference, "replay"]
-    for name, data in scripts():
+    for name, data in scripts(port):
         yield name, replays, data, len(data) // 20
 
 

@@ -24,6 +24,7 @@ ANSWERS = [
     ("FoundBlocked", "the call does not accept a vCPU that is Blocked"),
     ("BadFile", "not a usage file"),
     ("NotInFile", "the usage file has no such domain"),
+    ("BadSeed", "a load's seed is not zero"),
 ]
 
 
@@ -65,6 +66,16 @@ def build(name):
     note.cancel()
     if check.returncode != 0:
         raise Bad("".join(lines[-40:]) + f"{name} is not proved as its sources are now")
+
+
+def run(name, args, output=None):
+    """A program's status, which it cannot set itself: by what it says on standard error. And what it wrote."""
+    done = subprocess.run([program(name), *args], stdout=output, stderr=subprocess.PIPE)
+    said = done.stderr.decode()
+    sys.stderr.write(said)
+    if done.returncode != 0:
+        raise Bad(f"{name} ended with status {done.returncode}")
+    return (2 if said.startswith("usage:") else 1) if said else 0, done.stdout
 
 
 def say(line):

@@ -1,3 +1,4 @@
 pub mod Numbers
 pub mod Laws
+pub mod Stores
 pub mod Rows

@@ -1,6 +1,6 @@
 -- What a record of bytes can be for: a refusal, a build within the sizes, or, once there is a host, a call that fits its types.
 -- Assumes nothing.
-use Prim.Native.Nat.{ℕ, zero, suc, _^_, _<_}
+use Prim.Native.Nat.{ℕ, zero, suc}
 use mathlib.Core.Bool.{Bool, true, false, cond}
 use mathlib.Core.Path.{_≡_, refl}
 use mathlib.Core.List.{List, [], _∷_}
@@ -16,6 +16,7 @@ use Rattle.records.specs.declared.Record.{Record}
 use Rattle.records.specs.declared.MaybeCall.{MaybeCall}
 use Rattle.records.specs.declared.Shape.{Shape}
 use Rattle.records.specs.declared.Plan.{Plan}
+use Rattle.records.specs.Bytes.{Fits}
 use Rattle.records.specs.Records.{recordOf, callsOf, callOf, shapeOf, buildOf, afterBuild, planOf}
 use Rattle.big_endian.specs.Numbers.{AllBytes}
 use Rattle.big_endian.specs.Laws.{number-below}
@@ -26,16 +27,15 @@ pub data Fit (built : Bool) : Plan → Type 0 where
   build : (s : Shape) → withinSizes (s .«num_domains») (s .«vcpus_per_domain») (s .«num_pcpus») ≡ true → Sized s → Fit built (Plan.Build s)
   call : (c : Call) → built ≡ true → Typed c → Fit built (Plan.Call c)
 
--- the fields of a record fit their types
-record Fields (r : Record) : Type 0 where
-  dom : r .dom < 2 ^ 16
-  vcpu : r .vcpu < 2 ^ 32
-  third : r .third < 2 ^ 32
-  value : r .value < 2 ^ 64
-
-fields-fit : (bs : List ℕ) → AllBytes bs → Fields (recordOf bs)
+fields-fit : (bs : List ℕ) → AllBytes bs → Fits (recordOf bs)
 fields-fit bs a =
-    record { dom = number-below bs a 2 2; vcpu = number-below bs a 4 4; third = number-below bs a 8 4; value = number-below bs a 12 8 }
+    record {
+      kind = number-below bs a 0 2;
+      dom = number-below bs a 2 2;
+      vcpu = number-below bs a 4 4;
+      third = number-below bs a 8 4;
+      value = number-below bs a 12 8;
+    }
 
 -- a call, if it is one, fits its types
 abbrev MaybeTyped : MaybeCall → Type 0
@@ -51,7 +51,7 @@ at-kind [] a k = tt
 at-kind (m ∷ ms) a zero = a .0
 at-kind (m ∷ ms) a (suc k) = at-kind ms (a .1) k
 
-call-typed : (r : Record) → Fields r → MaybeTyped (callOf r)
+call-typed : (r : Record) → Fits r → MaybeTyped (callOf r)
 call-typed r f = at-kind (callsOf r) (search depth 20) (r .kind)
 
 call-fits : (built : Bool) (m : MaybeCall) → MaybeTyped m → Fit built (afterBuild built m)
@@ -59,7 +59,7 @@ call-fits built MaybeCall.None t = refuse BadScript
 call-fits true (MaybeCall.Some c) t = call c refl t
 call-fits false (MaybeCall.Some c) t = refuse BadScript
 
-build-fits : (built : Bool) (r : Record) → Fields r → Fit built (buildOf r)
+build-fits : (built : Bool) (r : Record) → Fits r → Fit built (buildOf r)
 build-fits built r f = go (withinSizes (r .dom) (r .vcpu) (r .third)) refl
   where
     go : (b : Bool) → withinSizes (r .dom) (r .vcpu) (r .third) ≡ b → Fit built (cond b (Plan.Build (shapeOf r)) (Plan.Refuse TooLarge))

@@ -1,14 +1,15 @@
--- What records are for, kind by kind, as the requirements list them. Assumes nothing.
+-- What records are for, kind by kind, as the requirements list them, and the bytes of one. Assumes nothing.
 use Prim.Native.Nat.{ℕ, _^_}
 use mathlib.Core.Bool.{true, false}
 use mathlib.Core.Path.{_≡_, refl}
 use mathlib.Core.List.{List, [], _∷_, _++_, map}
-use lib.ListN.{take}
+use lib.ListN.{take, replicate}
 use Rattle.system.specs.declared.Answer.the-variants.{TooLarge, BadScript}
 use Rattle.host.specs.declared.Call.{Call}
 use Rattle.records.specs.declared.Plan.{Plan}
 use Rattle.big_endian.specs.Numbers.{bytes, number}
-use Rattle.records.specs.Bytes.{bytesOf}
+use Rattle.rows.specs.Rows.{Row, rows, AllDue}
+use Rattle.records.specs.Bytes.{bytesOf, putRecord}
 use Rattle.records.specs.Records.{planOf}
 
 -- what a record is for, and what it has to be for
@@ -87,3 +88,27 @@ table =
 pub table-due : map (λ (r : PlanRow). r .given) table ≡ map (λ (r : PlanRow). r .due) table
 unfolding bytes number planOf
 table-due = refl
+
+-- ---- written
+
+-- n zeros with a record of fields 1 to 5 written from index `at` on
+abbrev put : ℕ → ℕ → List ℕ
+put n at = putRecord (replicate n 0) at (record { kind = 1; dom = 2; vcpu = 3; third = 4; value = 5 })
+
+abbrev written : List ℕ
+written = 0 ∷ 1 ∷ 0 ∷ 2 ∷ 0 ∷ 0 ∷ 0 ∷ 3 ∷ 0 ∷ 0 ∷ 0 ∷ 4 ∷ 0 ∷ 0 ∷ 0 ∷ 0 ∷ 0 ∷ 0 ∷ 0 ∷ 5 ∷ []
+
+abbrev pub puts : List Row
+puts =
+    rows (put 20 0) written
+    ∷ rows (put 21 0) (written ++ (0 ∷ []))
+    ∷ rows (put 21 1) (0 ∷ written)
+    -- a byte short, and past the end: nothing is written
+    ∷ rows (put 19 0) (replicate 19 0)
+    ∷ rows (put 21 2) (replicate 21 0)
+    ∷ rows (put 21 100) (replicate 21 0)
+    ∷ []
+
+pub puts-due : AllDue puts
+unfolding bytes
+puts-due = refl

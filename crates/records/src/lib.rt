@@ -3,7 +3,9 @@
 ghost use mathlib.Core.Path.{_≡_};
 ghost use Prim.Native.Nat.{_+_, _^_, _≤_, _<_};
 ghost use lib.ListN.{length};
-ghost use Rattle.big_endian.specs.Numbers.{number};
+ghost use lib.Seq.{sets};
+ghost use Rattle.big_endian.specs.Numbers.{bytes, number};
+ghost use Rattle.records.specs.Bytes.{putRecord};
 ghost use Rattle.records.specs.Records.{recordOf, recordAt, callOf, buildOf, afterBuild, planOf};
 use host::Call;
 use system::Answer;
@@ -177,4 +179,42 @@ pub fn plan_of(built: bool, bytes: &[u8]) -> Plan
         return build_of(r);
     }
     after_build(built, call_of(r))
+}
+
+// ---- written
+
+fn put_half(out: &mut [u8], at: usize, n: u16)
+    requires { ⌜ at + 2 ≤ length (now out) ⌝ }
+    ensures { λ _. ⌜ now (out .exit) ≡ sets (now (out .entry)) at (bytes 2 n) ⌝ }
+{
+    out[at] = (n / 0x100) as u8;
+    out[at + 1] = (n % 0x100) as u8;
+}
+
+fn put_word(out: &mut [u8], at: usize, n: u32)
+    requires { ⌜ at + 4 ≤ length (now out) ⌝ }
+    ensures { λ _. ⌜ now (out .exit) ≡ sets (now (out .entry)) at (bytes 4 n) ⌝ }
+{
+    out[at] = (n / 0x100_0000) as u8;
+    out[at + 1] = (n / 0x1_0000 % 0x100) as u8;
+    out[at + 2] = (n / 0x100 % 0x100) as u8;
+    out[at + 3] = (n % 0x100) as u8;
+}
+
+/// Writes the 20 bytes of a record from that index on; where there is no room for them, nothing.
+pub fn put_record(out: &mut [u8], at: usize, r: Record)
+    ensures { λ _. ⌜ now (out .exit) ≡ putRecord (now (out .entry)) at r ⌝ }
+{
+    if out.len() < RECORD {
+        return;
+    }
+    if at > out.len() - RECORD {
+        return;
+    }
+    put_half(out, at, r.kind);
+    put_half(out, at + 2, r.dom);
+    put_word(out, at + 4, r.vcpu);
+    put_word(out, at + 8, r.third);
+    put_word(out, at + 12, (r.value / 0x1_0000_0000) as u32);
+    put_word(out, at + 16, (r.value % 0x1_0000_0000) as u32);
 }

@@ -2,7 +2,7 @@
 use Prim.Native.Nat.{ℕ}
 use Rattle.system.specs.declared.Answer.{Answer}
 use Rattle.system.specs.declared.Answer.the-variants.{Done, BadDomain, BadVcpu, BadPcpu, PcpuBusy, NotAffine}
-use Rattle.system.specs.declared.Answer.the-variants.{TooLarge, Unsound, BadScript, BadFile, NotInFile}
+use Rattle.system.specs.declared.Answer.the-variants.{TooLarge, Unsound, BadScript, BadFile, NotInFile, BadSeed}
 use Rattle.system.specs.declared.Answer.the-variants.{FoundOffline, FoundRunnable, FoundRunning, FoundBlocked}
 use Rattle.system.specs.declared.System.{System}
 use Rattle.system.specs.declared.Stepped.{Stepped}
@@ -24,6 +24,7 @@ told FoundRunning = 11
 told FoundBlocked = 12
 told BadFile = 13
 told NotInFile = 14
+told BadSeed = 15
 
 -- the number told, and the system that the call leaves
 pub record SystemOutcome : Type 0 where

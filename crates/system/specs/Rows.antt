@@ -11,7 +11,7 @@ use Rattle.system.specs.declared.System.{System}
 use Rattle.system.specs.declared.MaybeState.{MaybeState}
 use Rattle.system.specs.declared.MaybeU64.{MaybeU64}
 use Rattle.system.specs.declared.Answer.the-variants.{Done, BadDomain, BadVcpu, BadPcpu, PcpuBusy, NotAffine}
-use Rattle.system.specs.declared.Answer.the-variants.{TooLarge, Unsound, BadScript, BadFile, NotInFile}
+use Rattle.system.specs.declared.Answer.the-variants.{TooLarge, Unsound, BadScript, BadFile, NotInFile, BadSeed}
 use Rattle.system.specs.declared.Answer.the-variants.{FoundOffline, FoundRunnable, FoundRunning, FoundBlocked}
 use Rattle.system.specs.Answers.{told}
 use Rattle.system.specs.Records.{inFlight}
@@ -38,6 +38,7 @@ numbers =
     ∷ row (told FoundBlocked) 12
     ∷ row (told BadFile) 13
     ∷ row (told NotInFile) 14
+    ∷ row (told BadSeed) 15
     ∷ []
 
 pub numbers-due : AllDue numbers

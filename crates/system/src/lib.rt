@@ -86,6 +86,7 @@ pub enum Answer {
     BadScript,
     BadFile,
     NotInFile,
+    BadSeed,
 }
 
 /// The number by which an answer is told.
@@ -108,6 +109,7 @@ pub fn number_of(answer: Answer) -> u64
         Answer::FoundBlocked => 12,
         Answer::BadFile => 13,
         Answer::NotInFile => 14,
+        Answer::BadSeed => 15,
     }
 }
 

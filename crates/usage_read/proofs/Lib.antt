@@ -1,3 +1,2 @@
 mod Opened
 mod Readers
-mod Walks

@@ -36,11 +36,11 @@ use denote.Triple.Clauses.{Ended, Clauses, closing}
 use denote.Triple.Entry.{Args, Res, onEntry}
 use denote.Triple.Spec.{tripleOf}
 use denote.Triple.Statement.{Contract, Triple}
+use Rattle.walks.proofs.Walks.{calls-told, number, Exit, ends}
 use Rattle.usage_layout.specs.Reading.{countOf}
 use Rattle.usage_read.specs.declared.Reader.{Reader}
 use Rattle.usage_read.proofs.Reader.Laws as T′
 use Rattle.usage_read.proofs.Readers.{Row, typed}
-use Rattle.usage_read.proofs.Walks.{calls-told, number, Exit, ends}
 use Rattle.usage_read.proofs.open as opener
 use Rattle.usage_read.proofs.open.Symbol.{name as #usage-read·open}
 

@@ -7,11 +7,12 @@ use lib.ListN.{length, length-append}
 use lib.Seq.{sets}
 use Rattle.big_endian.specs.Numbers.{bytes}
 use Rattle.big_endian.specs.Laws.{length-bytes}
+use Rattle.big_endian.specs.Stores.{stored-behind}
 use Rattle.usage_layout.specs.Layout.{usge, each, entry, vcpuBytes, file, padded, zeros, Figures, Within}
 use Rattle.usage_layout.proofs.Laws.{vcpu-length, file-short}
 use Rattle.usage_layout.proofs.Laws.{upto, upto-none, upto-all, upto-length, upto-next, upto-stays}
 use Rattle.usage_write.proofs.Sizes.{lines-length, vcpus-before}
-use Rattle.usage_write.proofs.Stores.{stored-behind, stored-file}
+use Rattle.usage_write.proofs.Stores.{stored-file}
 
 -- the table of contents, and all that stands before the bodies
 abbrev lines : Figures → List ℕ

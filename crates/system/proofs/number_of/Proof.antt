@@ -41,8 +41,10 @@ number-of-spec =
     (λ c. search needs)
     (λ c. search needs)
     (λ c. search needs)
+    (λ c. search needs)
     found-offline
     found-running
     found-blocked
+    (λ c. search needs)
     (λ c. search needs)
     (λ c. search needs))

@@ -27,6 +27,7 @@ use denote.Triple.Entry.{onEntry}
 use denote.Triple.Spec.{tripleOf}
 use denote.Triple.Statement.{Contract, Triple}
 use denote.Triple.Table.{cited}
+use Rattle.walks.proofs.Walks.{calls-told, number, Exit, ends, proves}
 use Rattle.system.specs.Answers.{told}
 use Rattle.usage_parse.specs.Domains.{answerAt}
 use Rattle.usage_parse.proofs.answer_at as answer-at
@@ -36,7 +37,6 @@ use Rattle.usage_parse.proofs.answer_at.Met as answer-at-thm
 use Rattle.usage_read.specs.declared.Reader.{Reader}
 use Rattle.usage_read.proofs.Reader.Laws as T′
 use Rattle.usage_read.proofs.Readers.{Row, spelt, tells, typed}
-use Rattle.usage_read.proofs.Walks.{calls-told, number, Exit, ends, proves}
 use Rattle.usage_read.proofs.answer.Key.{name as #usage-read·answer}
 use Rattle.usage_read.proofs.answer as it
 use Rattle.usage_read.proofs.answer.Statement as stated

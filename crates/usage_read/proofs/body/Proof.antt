@@ -34,6 +34,7 @@ use denote.Triple.Spec.{tripleOf}
 use denote.Triple.Statement.{Contract, Triple}
 use denote.Triple.Table.{cited}
 use denote.Triple.Walked.{needs}
+use Rattle.walks.proofs.Walks.{calls-told, number, Exit, ends, proves}
 use Rattle.usage_parse.specs.Domains.{stretchAt, placeAt}
 use Rattle.usage_parse.proofs.body_at as body-at
 use Rattle.usage_parse.proofs.body_at.Symbol as body-at-def
@@ -43,7 +44,6 @@ use Rattle.usage_read.specs.declared.Reader.{Reader}
 use Rattle.usage_read.proofs.Reader as T
 use Rattle.usage_read.proofs.Reader.Laws as T′
 use Rattle.usage_read.proofs.Readers.{Row, spelt, tells, typed}
-use Rattle.usage_read.proofs.Walks.{calls-told, number, Exit, ends, proves}
 use Rattle.usage_read.proofs.body.Key.{name as #usage-read·body}
 use Rattle.usage_read.proofs.body as it
 use Rattle.usage_read.proofs.body.Statement as stated

@@ -32,6 +32,7 @@ use denote.Triple.Entry.{onEntry}
 use denote.Triple.Spec.{tripleOf}
 use denote.Triple.Statement.{Contract, Triple}
 use denote.Triple.Table.{cited}
+use Rattle.walks.proofs.Walks.{calls-told, number, Exit, ends, proves}
 use Rattle.usage_layout.specs.Reading.{countOf}
 use Rattle.usage_parse.proofs.domain_count as counted
 use Rattle.usage_parse.proofs.domain_count.Symbol as counted-def
@@ -40,7 +41,6 @@ use Rattle.usage_parse.proofs.domain_count.Met as counted-thm
 use Rattle.usage_read.specs.declared.Reader.{Reader}
 use Rattle.usage_read.proofs.Reader as T
 use Rattle.usage_read.proofs.Reader.Laws as T′
-use Rattle.usage_read.proofs.Walks.{calls-told, number, Exit, ends, proves}
 use Rattle.usage_read.proofs.open.Key.{name as #usage-read·open}
 use Rattle.usage_read.proofs.open as it
 use Rattle.usage_read.proofs.open.Statement as stated

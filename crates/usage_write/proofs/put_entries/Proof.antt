@@ -7,9 +7,9 @@ use lib.Seq.{sets}
 use borrow.Author.Needs.{needs}
 use Rattle.big_endian.specs.Numbers.{bytes}
 use Rattle.big_endian.specs.Laws.{length-bytes}
+use Rattle.big_endian.specs.Stores.{stored-behind}
 use Rattle.usage_layout.specs.Layout.{each, start, entry}
 use Rattle.usage_write.proofs.Sizes.{lines-length, vcpus-before}
-use Rattle.usage_write.proofs.Stores.{stored-behind}
 use Rattle.usage_write.proofs.put_entries.Statement.{statement}
 use Rattle.usage_write.proofs.put_entries.Tie as tie
 

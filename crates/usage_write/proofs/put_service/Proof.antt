@@ -9,8 +9,8 @@ use mir.Val.{Fits}
 use native.Mathlib.Omega.{arith}
 use borrow.Author.Needs.{needs}
 use Rattle.big_endian.specs.Numbers.{bytes}
+use Rattle.big_endian.specs.Stores.{stored-behind}
 use Rattle.usage_write.proofs.Limbs.{limb-bytes}
-use Rattle.usage_write.proofs.Stores.{stored-behind}
 use Rattle.usage_write.proofs.put_service.Statement.{statement}
 use Rattle.usage_write.proofs.put_service.Tie as tie
 

@@ -3,8 +3,8 @@ use native.Mathlib.Omega.{arith}
 use borrow.Author.Needs.{needs}
 use Rattle.big_endian.specs.Numbers.{bytes}
 use Rattle.big_endian.specs.Laws.{length-bytes}
+use Rattle.big_endian.specs.Stores.{stored-behind}
 use Rattle.service.specs.Service.{value}
-use Rattle.usage_write.proofs.Stores.{stored-behind}
 use Rattle.usage_write.proofs.put_vcpu.Statement.{statement}
 use Rattle.usage_write.proofs.put_vcpu.Tie as tie
 

@@ -1,0 +1,22 @@
+-- `records::put_half` meets its contract: the two stores are the definition's. Assumes nothing.
+use Prim.Native.Nat.{_/_, _<_}
+use native.Mathlib.Nat.{div-one, mod-eq-of-lt}
+use native.Mathlib.Numerals.{add-one}
+use native.Mathlib.Omega.{arith}
+use lib.ListN.{length-set}
+use borrow.Author.Needs.{needs}
+use Rattle.big_endian.specs.Numbers.{bytes}
+use Rattle.records.proofs.put_half.Statement.{statement}
+use Rattle.records.proofs.put_half.Tie as tie
+
+returns : tie.Need-returns
+unfolding bytes
+returns c =
+    let upper : c .args .n / 256 < 256 = omega arith in
+    simp (div-one, add-one, mod-eq-of-lt upper)
+
+pub put-half-spec : {M : Type 1} → statement M
+put-half-spec =
+    tie.close
+    (tie.spec (λ c. search needs) (λ c. search needs) (λ c. search needs) (λ c. search needs) (λ c. simp length-set (omega arith))
+    (λ c. search needs) returns)

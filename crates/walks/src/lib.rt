@@ -1,0 +1,1 @@
+//! No code: steps that proofs by hand share, along a function's MIR, for the crates above.
