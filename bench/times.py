@@ -73,6 +73,8 @@ def scripts(port):
         yield f"load, {shape[0] * shape[1]} vCPUs on {shape[2]} pCPUs", made
     yield "script, 128 vCPUs on 64 pCPUs, an advance in 100 calls", steady(FULL, 1_000_000, 100)
     yield "script, 8 vCPUs on 4 pCPUs, an advance in 10 calls", steady(SMALL, 1_000_000, 10)
+    waiting = b"".join([*admitted(FULL), record(ADVANCE, value=5)])
+    yield "advance with nothing due, 128 vCPUs on 64 pCPUs", waiting + record(ADVANCE, value=6) * 50_000
     yield "admit (a build every 129)", b"".join(admitted(FULL)) * 2000
     yield "run, preempt", repeated(record(RUN, *last, 63, 5), record(PREEMPT, *last, value=9))
     yield "block, wake", repeated(record(BLOCK, *last, value=5), record(WAKE, *last))

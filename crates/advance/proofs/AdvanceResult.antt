@@ -1,23 +1,31 @@
--- The service policy's table is one to settle by, and what `advance` hands back is the definition's. Assumes nothing.
+-- What `advance` hands back is the definition's. Assumes nothing.
 use Prim.Native.Nat.{ℕ}
-use mathlib.Core.Bool.{true}
-use mathlib.Core.Path.{_≡_, refl}
-use mathlib.Core.List.{List}
+use mathlib.Core.Bool.{Bool, true, false}
+use mathlib.Core.Path.{_≡_, sym, _∙_, ap}
+use Rattle.system.specs.declared.Answer.{Answer}
 use Rattle.system.specs.declared.System.{System}
+use Rattle.system.specs.Answers.{told}
 use Rattle.verdict.specs.Violations.{invariantsHold}
 use Rattle.policy.specs.declared.Scheduler.{Scheduler}
 use Rattle.policy.specs.Accounting.{accounted}
 use Rattle.rules.specs.Settle.{limit}
 use Rattle.advance.specs.Advance.{advance}
 use Rattle.advance.specs.Outcomes.{AdvanceOutcome, counted}
-use Rattle.advance.specs.Internal.{Tabulates, Settleable, Settles}
-use Rattle.advance.specs.ServiceRule.{ruleOf, service-steady}
+use Rattle.advance.specs.Internal.{toldOf, Settles}
+use Rattle.advance.specs.ServiceRule.{ruleOf}
 
-pub service-settleable : {s : System} (π : Scheduler) {now : ℕ} {k m t l w : List ℕ} → Tabulates s (ruleOf π) now k m t l w
-    → Settleable s (π .quantum) now k m t l w (ruleOf π)
-service-settleable π T = record { steady = service-steady π; sliced = refl; unbarred = λ i p h on. refl; table = T }
+-- what is handed back, by the number that is told
+abbrev handed : Answer → System → Scheduler → ℕ → AdvanceOutcome
+handed a t π m = record { number = told a; system = t; policy = π; count = m }
 
-pub settled : (s : System) (p π : Scheduler) (now : ℕ) (t : System) (m : ℕ) → invariantsHold s ≡ true → π ≡ accounted s p now
-    → Settles (ruleOf π) now (limit s) s t m → _≡_ {A = AdvanceOutcome} (record { number = 0; system = t; policy = π; count = m }) (counted (advance s p now))
-unfolding advance
-settled s p π now t m h e S = rw (h, ← e, S .system, S .count)
+module _ (s : System) (p : Scheduler) (now : ℕ) {a : Answer} {b : Bool} (t : System) (π : Scheduler) (m : ℕ) (tells : a ≡ toldOf b)
+    (verdict : b ≡ invariantsHold s) where
+  -- of a sound system, settled under the accounted policy
+  pub settled : b ≡ true → π ≡ accounted s p now → Settles (ruleOf π) now (limit s) s t m → handed a t π m ≡ counted (advance s p now)
+  unfolding advance
+  settled h e S = rw (sym verdict ∙ h, ← e, tells ∙ ap toldOf h, S .system, S .count)
+
+  -- of any other, as it was
+  pub untouched : b ≡ false → t ≡ s → π ≡ p → m ≡ 0 → handed a t π m ≡ counted (advance s p now)
+  unfolding advance
+  untouched h x y z = rw (sym verdict ∙ h, tells ∙ ap toldOf h, x, y, z)

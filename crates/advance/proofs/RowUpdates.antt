@@ -1,6 +1,5 @@
--- The rows of the table follow a move: the kind of the slot that moves is stored, and its service is that which it has off its
--- pCPU. Assumes nothing.
-use Prim.Native.Nat.{ℕ, _%_, _^_, _<_, min}
+-- The rows of the table follow a move: the kind and the service of the slot that moves are stored. Assumes nothing.
+use Prim.Native.Nat.{ℕ, _%_, _<_, min}
 use mathlib.Core.Bool.{Bool, true, false}
 use mathlib.Core.Path.{_≡_, refl, sym, _∙_, ap, ap₂}
 use mathlib.Core.List.{List}
@@ -19,14 +18,11 @@ use Rattle.system.specs.Slots.{vcpus, slot-below, present}
 use Rattle.changes.specs.Records.{dispatched, left}
 use Rattle.moves.specs.declared.Choice.{Choice}
 use Rattle.moves.specs.declared.Choice.the-variants.{Run, Preempt, Rest}
-use Rattle.moves.specs.Table.{rowAt}
 use Rattle.rules.specs.Rules.{Rule}
-use Rattle.rules.specs.Steady.{CanMove, run, preempt, Steady}
 use Rattle.moves.specs.BackToLast.{slotIn}
-use Rattle.advance.specs.Internal.{kindOf, offIn, offPcpu, Row, Rows, ontoIn, recordAfter, occupantAfter}
+use Rattle.advance.specs.Internal.{kindOf, setRow, Row, Rows, ontoIn, recordAfter, occupantAfter}
 use Rattle.advance.proofs.RowStores.{row-here}
-use Rattle.advance.specs.Internal.{setRow}
-use Rattle.advance.proofs.Rows.{row-kept}
+use Rattle.advance.proofs.Rows.{stored, row-kept}
 use Rattle.advance.proofs.SettleMoves.{moved, Moves, moves-wrote}
 
 affinity-kept : (c : Choice) (v : VirtualCpu) (now : ℕ) → (recordAfter c v now) .affinity ≡ v .affinity
@@ -35,31 +31,12 @@ affinity-kept (Run i p) v now = refl
 affinity-kept (Preempt i p) v now = refl
 affinity-kept Rest v now = refl
 
--- what the vCPU that moves has after it, and what it would have off its pCPU
-module _ {ρ : Rule} (St : Steady ρ) (now : ℕ) where
-  service-after : {s : System} {c : Choice} → CanMove s c
-      → let v = vcpuAt s (slotIn c) in
-      ρ .service (offPcpu v now) now (slotIn c) ≡ ρ .service (recordAfter c v now) now (slotIn c)
-  service-after {s} (run {i = i} {p = p} can) =
-      let v = vcpuAt s i in
-      ap (λ (u : VirtualCpu). ρ .service u now i) (ap (offIn v now) (can .ready)) ∙ sym (St .on v p now i (can .ready))
-  service-after {s} (preempt {i = i} h on) = ap (λ (u : VirtualCpu). ρ .service u now i) (ap (offIn (vcpuAt s i) now) on)
-
-  off-after : {s : System} {c : Choice} → CanMove s c → (vcpuAt s (slotIn c)) .runtime < 2 ^ 64
-      → let v = vcpuAt s (slotIn c) in
-      ρ .service (offPcpu v now) now (slotIn c) ≡ ρ .service (offPcpu (recordAfter c v now) now) now (slotIn c)
-  unfolding dispatched left
-  off-after {s} (run {i = i} {p = p} can) word =
-      let v = vcpuAt s i in
-      ap (λ (u : VirtualCpu). ρ .service u now i) (ap (offIn v now) (can .ready)) ∙ sym (St .off v p now i (can .ready) word)
-  off-after {s} (preempt {i = i} h on) word = ap (λ (u : VirtualCpu). ρ .service u now i) (ap (offIn (vcpuAt s i) now) on)
-
-pub rows-moved : (s : System) (ρ : Rule) (now : ℕ) (c : Choice) (k m t l w : List ℕ) (x : ℕ) → Steady ρ → Tables s → Moves s now c → length k ≡ 128
+pub rows-moved : (s : System) (ρ : Rule) (now : ℕ) (c : Choice) (k m t w r : List ℕ) (x : ℕ) → Tables s → Moves s now c → length k ≡ 128
     → length t ≡ 512 → ((j : ℕ) → ρ .barred (moved s now c) now j ≡ ρ .barred s now j) → ρ .barred s now (slotIn c) ≡ false
-    → (vcpuAt s (slotIn c)) .runtime < 2 ^ 64 → x ≡ kindOf true false (ρ .slice) now (recordAfter c (vcpuAt s (slotIn c)) now)
-    → (n : ℕ) → slotIn c < n → Rows s ρ now k m t l w n
-    → Rows (moved s now c) ρ now (set k (slotIn c) x) m (setRow t (slotIn c) (rowAt l (slotIn c))) l w n
-rows-moved s ρ now c k m t l w x St T M lk lt b free word ex n below R j h = go (ℕ-discrete j (slotIn c))
+    → x ≡ kindOf true false (ρ .slice) now (recordAfter c (vcpuAt s (slotIn c)) now)
+    → stored r ≡ ρ .service (recordAfter c (vcpuAt s (slotIn c)) now) now (slotIn c)
+    → (n : ℕ) → slotIn c < n → Rows s ρ now k m t w n → Rows (moved s now c) ρ now (set k (slotIn c) x) m (setRow t (slotIn c) r) w n
+rows-moved s ρ now c k m t w r x T M lk lt b free ex er n below R j h = go (ℕ-discrete j (slotIn c))
   where
     wrote : Wrote s (moved s now c) (slotIn c) (recordAfter c (vcpuAt s (slotIn c)) now) (ontoIn c) (occupantAfter c)
     wrote = moves-wrote T M
@@ -70,7 +47,7 @@ rows-moved s ρ now c k m t l w x St T M lk lt b free word ex n below R j h = go
     here : present (moved s now c) (slotIn c) ≡ true
     here = ap (λ (a : ℕ). ltb (slotIn c % 8) a) same ∙ lt-ltb (slotIn c % 8) (vcpus s) (M .present .vcpu)
 
-    go : Dec (j ≡ slotIn c) → Row (moved s now c) ρ now (set k (slotIn c) x) m (setRow t (slotIn c) (rowAt l (slotIn c))) l w j
+    go : Dec (j ≡ slotIn c) → Row (moved s now c) ρ now (set k (slotIn c) x) m (setRow t (slotIn c) r) w j
     go (yes e) =
         rw e
         (record {
@@ -80,11 +57,8 @@ rows-moved s ρ now c k m t l w x St T M lk lt b free word ex n below R j h = go
               ∙ ap (λ (v : VirtualCpu). kindOf (present (moved s now c) (slotIn c)) (ρ .barred (moved s now c) now (slotIn c)) (ρ .slice) now v) (sym (wrote .here));
           mask = R (slotIn c) below .mask ∙ sym (affinity-kept c (vcpuAt s (slotIn c)) now) ∙ ap (λ (v : VirtualCpu). v .affinity) (sym (wrote .here));
           service =
-              ap value (row-here t (slotIn c) (rowAt l (slotIn c)) lt (slot-below (M .present)))
-              ∙ R (slotIn c) below .off ∙ service-after St now (M .can) ∙ ap (λ (v : VirtualCpu). ρ .service v now (slotIn c)) (sym (wrote .here));
-          off =
-              R (slotIn c) below .off ∙ off-after St now (M .can) word
-              ∙ ap (λ (v : VirtualCpu). ρ .service (offPcpu v now) now (slotIn c)) (sym (wrote .here));
+              ap value (row-here t (slotIn c) r lt (slot-below (M .present)))
+              ∙ er ∙ ap (λ (v : VirtualCpu). ρ .service v now (slotIn c)) (sym (wrote .here));
           weight = R (slotIn c) below .weight;
         })
-    go (no d) = row-kept s (moved s now c) ρ now (slotIn c) j x k m t l w (rowAt l (slotIn c)) d same (wrote .there j d) (b j) (R j h)
+    go (no d) = row-kept s (moved s now c) ρ now (slotIn c) j x k m t w r d same (wrote .there j d) (b j) (R j h)

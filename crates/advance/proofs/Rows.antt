@@ -1,6 +1,6 @@
 -- The table of standings as the code keeps it, and the set of idle pCPUs: a decision over these, with whoever is dispatched put back,
 -- is the choice. Assumes nothing.
-use Prim.Native.Nat.{ℕ, _+_, _-_, _*_, _/_, _%_, _≤_, _<_, min}
+use Prim.Native.Nat.{ℕ, _+_, _-_, _*_, _%_, _≤_, _<_, min}
 use mathlib.Core.Bool.{Bool, true, false, cond, not, _&&_, false≢true, and-false}
 use mathlib.Core.Path.{_≡_, refl, sym, _∙_, ap, ap₂}
 use mathlib.Core.List.{List, [], _∷_}
@@ -8,19 +8,18 @@ use mathlib.Core.Logic.{_≢_}
 use native.Mathlib.Decide.{ℕ-discrete}
 use native.Mathlib.Omega.{arith}
 use lib.Dec.{ltb, leb, eqb}
-use lib.ListN.{length, getD, set}
+use lib.ListN.{getD, set, length-set}
 use lib.Seq.{getD-set-same, getD-set-other}
 use borrow.Author.Tests.{lt-ltb, le-leb, ne-eqb}
 use Rattle.scan.specs.Booleans.{both}
 use Rattle.masks.specs.Masks.{bit, permits}
 use Rattle.masks.specs.Sets.{setOf-permits}
-use Rattle.service.specs.Service.{value, held}
-use Rattle.service.specs.Laws.{value-held}
+use Rattle.service.specs.Service.{value}
 use Rattle.system.specs.declared.RunState.{RunState}
 use Rattle.system.specs.declared.RunState.the-variants.{Offline, Runnable, Running, Blocked}
 use Rattle.system.specs.declared.VirtualCpu.{VirtualCpu}
 use Rattle.system.specs.declared.System.{System}
-use Rattle.system.specs.Records.{elapsed, runtimeUntil}
+use Rattle.system.specs.Records.{elapsed}
 use Rattle.system.specs.Reads.{vcpuAt, idleAt}
 use Rattle.system.specs.Slots.{vcpus, Present, slots, present, is-present}
 use Rattle.system.specs.States.{onto, isRunnable}
@@ -32,14 +31,10 @@ use Rattle.moves.specs.DecideLaws.{run-fits, preempt-beaten}
 use Rattle.moves.specs.BackToLast.{slotIn, decide-back}
 use Rattle.moves.specs.Table.{tabled}
 use Rattle.moves.proofs.Laws.{Alike, decide-cong}
-use Rattle.policy.specs.declared.Scheduler.{Scheduler}
-use Rattle.policy.specs.Accounts.{offsetOf}
-use Rattle.policy.specs.Standing.{serviceBy}
 use Rattle.rules.specs.Rules.{Rule}
 use Rattle.rules.specs.Choices.{isExpired, standings, choice, coldChoice}
-use Rattle.advance.proofs.RowStores.{row-there, row-here, limbs-same}
-use Rattle.advance.specs.Internal.{setRow}
-use Rattle.advance.specs.Internal.{kindIn, kindOf, offPcpu, Row, Rows, Tabulates, idleSet, putBack}
+use Rattle.advance.proofs.RowStores.{row-there, row-here, row-length}
+use Rattle.advance.specs.Internal.{kindIn, kindOf, setRow, Row, Rows, Tabulates, idleSet, putBack}
 
 -- ---- a kind tells who waits and who is expired
 
@@ -77,8 +72,8 @@ on-by true x q e Blocked h y = absurd (false≢true y)
 
 -- ---- a decision over the rows is the choice
 
-module _ {s : System} {ρ : Rule} {now : ℕ} {kind mask service left weight : List ℕ} (S : Sound s)
-    (R : Rows s ρ now kind mask service left weight (slots s)) where
+module _ {s : System} {ρ : Rule} {now : ℕ} {kind mask service weight : List ℕ} (S : Sound s)
+    (R : Rows s ρ now kind mask service weight (slots s)) where
   abbrev t : Standings
   t = tabled kind mask service weight (idleSet s)
 
@@ -144,9 +139,9 @@ module _ {s : System} {ρ : Rule} {now : ℕ} {kind mask service left weight : L
       ap (λ (d : Choice). permits (idleSet s) q && permits (getD mask (slotIn d) 0) q) e ∙ free-same i (run-fits t (slots s) i p e .0) q))
 
 -- the same, of a table and a count as the code has them
-pub table-decides : (s : System) (ρ : Rule) (now : ℕ) {k m t l w : List ℕ} → Sound s → Tabulates s ρ now k m t l w
+pub table-decides : (s : System) (ρ : Rule) (now : ℕ) {k m t w : List ℕ} → Sound s → Tabulates s ρ now k m t w (slots s)
     → putBack s m (idleSet s) (decide (tabled k m t w (idleSet s)) (min (s .«domain_count» * 8) 128)) ≡ choice s ρ now
-table-decides s ρ now {k} {m} {t} {l} {w} S R =
+table-decides s ρ now {k} {m} {t} {w} S R =
     let e : min (s .«domain_count» * 8) 128 ≡ slots s = omega (arith, S .domains) in
     ap (λ (n : ℕ). putBack s m (idleSet s) (decide (tabled k m t w (idleSet s)) n)) e ∙ decides-choice S (R .rows)
 
@@ -165,18 +160,10 @@ slot-decided t n l = go (decide t n) refl
 abbrev pub stored : List ℕ → ℕ
 stored r = value (getD r 0 0 ∷ getD r 1 0 ∷ getD r 2 0 ∷ getD r 3 0 ∷ [])
 
--- what the service policy stores is the service by its rule
-pub service-stored : (π : Scheduler) (v : VirtualCpu) (now i : ℕ) (r : List ℕ) → r ≡ held (runtimeUntil v now + offsetOf π (i / 8) (i % 8))
-    → stored r ≡ serviceBy π v now i
-unfolding serviceBy
-service-stored π v now i r x =
-    let n = runtimeUntil v now + offsetOf π (i / 8) (i % 8) in
-    ap stored x ∙ ap value (limbs-same n) ∙ value-held n
-
 -- a row of another slot, in a system that has the same there
-pub row-kept : (s s′ : System) (ρ : Rule) (now i j x : ℕ) (k m t l w r : List ℕ) → j ≢ i → vcpus s′ ≡ vcpus s → vcpuAt s′ j ≡ vcpuAt s j
-    → ρ .barred s′ now j ≡ ρ .barred s now j → Row s ρ now k m t l w j → Row s′ ρ now (set k i x) m (setRow t i r) l w j
-row-kept s s′ ρ now i j x k m t l w r n e f b R =
+pub row-kept : (s s′ : System) (ρ : Rule) (now i j x : ℕ) (k m t w r : List ℕ) → j ≢ i → vcpus s′ ≡ vcpus s → vcpuAt s′ j ≡ vcpuAt s j
+    → ρ .barred s′ now j ≡ ρ .barred s now j → Row s ρ now k m t w j → Row s′ ρ now (set k i x) m (setRow t i r) w j
+row-kept s s′ ρ now i j x k m t w r n e f b R =
     record {
       kind =
           getD-set-other k i j x 0 n ∙ R .kind
@@ -184,33 +171,37 @@ row-kept s s′ ρ now i j x k m t l w r n e f b R =
           ∙ ap (λ (y : Bool). kindOf (present s′ j) y (ρ .slice) now (vcpuAt s′ j)) (sym b);
       mask = R .mask ∙ ap (λ (v : VirtualCpu). v .affinity) (sym f);
       service = ap value (row-there t i r j n) ∙ R .service ∙ ap (λ (v : VirtualCpu). ρ .service v now j) (sym f);
-      off = R .off ∙ ap (λ (v : VirtualCpu). ρ .service (offPcpu v now) now j) (sym f);
       weight = R .weight;
     }
 
--- rows below i, with slot i stored, are rows below the next
-pub rows-next : (s : System) (ρ : Rule) (now i : ℕ) (k m t l w r g : List ℕ) (x y z : ℕ) → length k ≡ 128 → length m ≡ 128 → length t ≡ 512
-    → length l ≡ 512 → length w ≡ 128 → i < 128 → x ≡ kindOf (present s i) (ρ .barred s now i) (ρ .slice) now (vcpuAt s i) → y ≡ (vcpuAt s i) .affinity
-    → stored r ≡ ρ .service (vcpuAt s i) now i → stored g ≡ ρ .service (offPcpu (vcpuAt s i) now) now i → z ≡ ρ .weight i
-    → Rows s ρ now k m t l w i → Rows s ρ now (set k i x) (set m i y) (setRow t i r) (setRow l i g) (set w i z) (i + 1)
-rows-next s ρ now i k m t l w r g x y z lk lm lt ll lw below ex ey er eg ez R j h = go (ℕ-discrete j i)
+-- the table below i, with slot i stored, is the table below the next
+pub tabulates-next : {s : System} {ρ : Rule} {now i : ℕ} {k m t w : List ℕ} (r : List ℕ) {x y z : ℕ} → i < 128
+    → x ≡ kindOf (present s i) (ρ .barred s now i) (ρ .slice) now (vcpuAt s i) → y ≡ (vcpuAt s i) .affinity
+    → stored r ≡ ρ .service (vcpuAt s i) now i → z ≡ ρ .weight i → Tabulates s ρ now k m t w i
+    → Tabulates s ρ now (set k i x) (set m i y) (setRow t i r) (set w i z) (i + 1)
+tabulates-next {s} {ρ} {now} {i} {k} {m} {t} {w} r {x} {y} {z} below ex ey er ez T =
+    record {
+      rows = λ j h. go j h (ℕ-discrete j i);
+      kinds = length-set k i x ∙ T .kinds;
+      masks = length-set m i y ∙ T .masks;
+      services = row-length t i r ∙ T .services;
+      weights = length-set w i z ∙ T .weights;
+    }
   where
-    go : Dec (j ≡ i) → Row s ρ now (set k i x) (set m i y) (setRow t i r) (setRow l i g) (set w i z) j
-    go (yes e) =
+    go : (j : ℕ) → j < i + 1 → Dec (j ≡ i) → Row s ρ now (set k i x) (set m i y) (setRow t i r) (set w i z) j
+    go j h (yes e) =
         rw e
         (record {
-          kind = getD-set-same k i x 0 (omega (arith, lk)) ∙ ex;
-          mask = getD-set-same m i y 0 (omega (arith, lm)) ∙ ey;
-          service = ap value (row-here t i r lt below) ∙ er;
-          off = ap value (row-here l i g ll below) ∙ eg;
-          weight = getD-set-same w i z 0 (omega (arith, lw)) ∙ ez;
+          kind = getD-set-same k i x 0 (omega (arith, T .kinds)) ∙ ex;
+          mask = getD-set-same m i y 0 (omega (arith, T .masks)) ∙ ey;
+          service = ap value (row-here t i r (T .services) below) ∙ er;
+          weight = getD-set-same w i z 0 (omega (arith, T .weights)) ∙ ez;
         })
-    go (no n) =
-        let R′ = row-kept s s ρ now i j x k m t l w r n refl refl refl (R j (omega arith)) in
+    go j h (no n) =
+        let R′ = row-kept s s ρ now i j x k m t w r n refl refl refl (T .rows j (omega arith)) in
         record {
           kind = R′ .kind;
           mask = getD-set-other m i j y 0 n ∙ R′ .mask;
           service = R′ .service;
-          off = ap value (row-there l i g j n) ∙ R′ .off;
           weight = getD-set-other w i j z 0 n ∙ R′ .weight;
         }

@@ -183,12 +183,17 @@ module _ {ρ : Rule} {now : ℕ} {K : ℕ} {s₀ s : System} {n : ℕ} where
       let x = one-more ρ now s k c e r m in
       record { system = o .system ∙ x .system; count = omega (arith, o .count, x .count) }
 
-  pub onward-rest : (k : ℕ) → Onward ρ now K s₀ k s n → choice s ρ now ≡ Rest → Settles ρ now K s₀ s n
+  -- at rest no move is left, however many might be
+  pub onward-rest : (k : ℕ) → Onward ρ now K s₀ k s n → choice s ρ now ≡ Rest → Onward ρ now K s₀ 0 s n
+  unfolding settle
   onward-rest k o e =
       let x = at-rest ρ now s k e in
-      record { system = sym (o .system ∙ x .0); count = omega (arith, o .count, x .1) }
+      record { system = o .system ∙ x .0; count = omega (arith, o .count, x .1) }
 
-  -- no move is left
   pub onward-out : Onward ρ now K s₀ 0 s n → Settles ρ now K s₀ s n
   unfolding settle
   onward-out o = record { system = sym (o .system); count = omega (arith, o .count) }
+
+-- where there is nothing to do, none is made
+pub settles-none : {ρ : Rule} {now : ℕ} (k : ℕ) {s : System} → choice s ρ now ≡ Rest → Settles ρ now k s s 0
+settles-none {ρ} {now} k {s} e = onward-out (onward-rest k (onward-start ρ now k s) e)

@@ -1,9 +1,10 @@
--- What the crate's own functions say: the table of standings as the code keeps it, what a choice moves, and settling.
+-- What the crate's own functions say: the table of standings as the code keeps it, what a choice moves, settling, and what an
+-- advance has to do.
 use Prim.Native.Nat.{ℕ, _+_, _*_, _/_, _%_, _<_, min}
-use mathlib.Core.Bool.{Bool, true, false, cond, _&&_}
+use mathlib.Core.Bool.{Bool, true, false, cond, not, _&&_, _||_}
 use mathlib.Core.Path.{_≡_, refl}
 use mathlib.Core.List.{List}
-use lib.Dec.{ltb, leb}
+use lib.Dec.{ltb, leb, eqb}
 use lib.ListN.{length, getD, set}
 use Rattle.masks.specs.Masks.{pcpuBit}
 use Rattle.masks.specs.Sets.{setOf}
@@ -18,18 +19,22 @@ use Rattle.system.specs.Records.{elapsed}
 use Rattle.system.specs.declared.PhysicalCpu.{PhysicalCpu}
 use Rattle.system.specs.Shape.{idle}
 use Rattle.system.specs.Reads.{vcpuAt, occupantAt, lastAt, isIdle, idleAt}
-use Rattle.system.specs.Slots.{Present, slots, present}
-use Rattle.system.specs.States.{whileRunning}
+use Rattle.system.specs.Slots.{present}
+use Rattle.system.specs.States.{isRunnable, schedulable}
 use Rattle.changes.specs.Records.{dispatched, left}
 use Rattle.moves.specs.declared.Choice.{Choice}
 use Rattle.moves.specs.declared.Choice.the-variants.{Run, Preempt, Rest}
 use Rattle.moves.specs.BackToLast.{backTo, slotIn}
 use Rattle.moves.specs.Table.{rowAt}
 use Rattle.rules.specs.Settle.{settle}
+use Rattle.system.specs.declared.Answer.{Answer}
+use Rattle.system.specs.declared.Answer.the-variants.{Done, Unsound}
 use Rattle.advance.specs.declared.Decision.{Decision}
+use Rattle.advance.specs.declared.Due.{Due}
 use Rattle.advance.specs.declared.Decision.the-variants as decision
 use Rattle.rules.specs.Rules.{Rule}
-use Rattle.rules.specs.Steady.{Steady}
+use Rattle.rules.specs.Choices.{isExpired}
+use Rattle.policy.specs.declared.Account.{Account}
 
 -- ---- the table
 
@@ -43,33 +48,27 @@ kindIn barred q e Blocked = 0
 abbrev pub kindOf : Bool → Bool → ℕ → ℕ → VirtualCpu → ℕ
 kindOf present barred q now v = cond present (kindIn barred q (elapsed v now) (v .state)) 0
 
--- a vCPU's record once it has left its pCPU, as it is if it is on none
-abbrev pub offIn : VirtualCpu → ℕ → RunState → VirtualCpu
-offIn v now st = whileRunning st (λ p. left v Runnable now) v
-
-abbrev pub offPcpu : VirtualCpu → ℕ → VirtualCpu
-offPcpu v now = offIn v now (v .state)
-
 -- the four limbs of r stored as slot i's
 abbrev pub setRow : List ℕ → ℕ → List ℕ → List ℕ
 setRow t i r = set (set (set (set t (i * 4) (getD r 0 0)) (i * 4 + 1) (getD r 1 0)) (i * 4 + 2) (getD r 2 0)) (i * 4 + 3) (getD r 3 0)
 
 -- the row of slot i
-pub record Row (s : System) (ρ : Rule) (now : ℕ) (k m t l w : List ℕ) (i : ℕ) : Type 0 where
+pub record Row (s : System) (ρ : Rule) (now : ℕ) (k m t w : List ℕ) (i : ℕ) : Type 0 where
   pub kind : getD k i 0 ≡ kindOf (present s i) (ρ .barred s now i) (ρ .slice) now (vcpuAt s i)
   pub mask : getD m i 0 ≡ (vcpuAt s i) .affinity
   pub service : value (rowAt t i) ≡ ρ .service (vcpuAt s i) now i
-  pub off : value (rowAt l i) ≡ ρ .service (offPcpu (vcpuAt s i) now) now i
   pub weight : getD w i 0 ≡ ρ .weight i
 
-abbrev pub Rows : System → Rule → ℕ → List ℕ → List ℕ → List ℕ → List ℕ → List ℕ → ℕ → Type 0
-Rows s ρ now kind mask service left weight n = (i : ℕ) → i < n → Row s ρ now kind mask service left weight i
+abbrev pub Rows : System → Rule → ℕ → List ℕ → List ℕ → List ℕ → List ℕ → ℕ → Type 0
+Rows s ρ now kind mask service weight n = (i : ℕ) → i < n → Row s ρ now kind mask service weight i
 
--- the whole table, with arrays as long as the code's where they are written later
-pub record Tabulates (s : System) (ρ : Rule) (now : ℕ) (k m t l w : List ℕ) : Type 0 where
-  pub rows : Rows s ρ now k m t l w (slots s)
+-- the table of the first n slots, with arrays as long as the code's
+pub record Tabulates (s : System) (ρ : Rule) (now : ℕ) (k m t w : List ℕ) (n : ℕ) : Type 0 where
+  pub rows : Rows s ρ now k m t w n
   pub kinds : length k ≡ 128
+  pub masks : length m ≡ 128
   pub services : length t ≡ 512
+  pub weights : length w ≡ 128
 
 -- pCPU p is one of the first m of a table, and nobody holds it
 abbrev pub idleIn : List PhysicalCpu → ℕ → ℕ → Bool
@@ -129,20 +128,28 @@ freed Rest = 0
 
 -- ---- settling
 
--- s may be settled under ρ by the table, whose runners' slice is as given: the rule is steady, and whoever runs is not barred
-pub record Settleable (s : System) (slice now : ℕ) (k m t l w : List ℕ) (ρ : Rule) : Type 0 where
-  pub steady : Steady ρ
-  pub sliced : ρ .slice ≡ slice
-  pub unbarred : (i p : ℕ) → Present s i → (vcpuAt s i) .state ≡ Running p → ρ .barred s now i ≡ false
-  pub table : Tabulates s ρ now k m t l w
-
-abbrev pub SomeRule : (Rule → Type 0) → Type 0
-SomeRule P = (ρ : Rule) × P ρ
-
-abbrev pub EachRule : (Rule → Type 0) → (Rule → Type 0) → Type 0
-EachRule P Q = (ρ : Rule) → P ρ → Q ρ
-
 -- t and m are what settling gives
 pub record Settles (ρ : Rule) (now k : ℕ) (s t : System) (m : ℕ) : Type 0 where
   pub system : t ≡ (settle ρ now k s) .system
   pub count : m ≡ length ((settle ρ now k s) .moves)
+
+-- ---- what an advance has to do
+
+-- what is due once v, of account a, was looked at too
+abbrev pub dueWith : Due → VirtualCpu → Account → ℕ → ℕ → Due
+dueWith due v a q now =
+    record {
+      joined = (schedulable (v .state) && not (a .«was_schedulable»)) || due .joined;
+      left = (not (schedulable (v .state)) && a .«was_schedulable») || due .left;
+      waits = isRunnable (v .state) || due .waits;
+      expired = isExpired q (elapsed v now) (v .state) || due .expired;
+    }
+
+abbrev pub poolChanged : Due → Bool
+poolChanged due = due .joined || due .left
+
+abbrev pub mayMove : Due → ℕ → Bool
+mayMove due idle = due .waits && (not (eqb idle 0) || due .expired)
+
+abbrev pub toldOf : Bool → Answer
+toldOf sound = cond sound Done Unsound

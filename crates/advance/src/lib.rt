@@ -2,23 +2,26 @@
 
 ghost use mathlib.Core.Path.{_≡_};
 ghost use mathlib.Core.Bool.{true, false};
-ghost use Prim.Native.Nat.{_+_, _*_, _^_, _≤_, _<_, min};
-ghost use Rattle.verdict.specs.Violations.{invariantsHold};
+ghost use Prim.Native.Nat.{_+_, _*_, _≤_, _<_, min};
+ghost use lib.ListN.{set};
 ghost use Rattle.masks.specs.Sets.{setOf};
 ghost use Rattle.moves.specs.BackToLast.{slotIn};
 ghost use Rattle.moves.specs.Decide.{decide};
-ghost use Rattle.moves.specs.Table.{rowAt, tabled};
+ghost use Rattle.moves.specs.Table.{tabled};
 ghost use Rattle.service.specs.Service.{held};
+ghost use Rattle.system.specs.Slots.{slots};
+ghost use Rattle.policy.specs.Accounts.{usedWeight};
 ghost use Rattle.policy.specs.Standing.{serviceOf};
-ghost use Rattle.rules.specs.Settle.{limit};
 ghost use Rattle.advance.specs.Advance.{next, advance};
 ghost use Rattle.advance.specs.Outcomes.{nextOutcome, advanceOutcome, counted};
-ghost use Rattle.advance.specs.Internal.{kindOf, offPcpu, setRow, Tabulates, idleIn, idleSet, putBack};
-ghost use Rattle.advance.specs.Internal.{namedAs, ontoIn, recordAfter, occupantAfter, cleared, freed, isRest, Settleable, SomeRule, EachRule, Settles};
+ghost use Rattle.advance.specs.Internal.{kindOf, setRow, Tabulates, idleIn, idleSet, putBack};
+ghost use Rattle.advance.specs.Internal.{namedAs, ontoIn, recordAfter, occupantAfter, cleared, freed, isRest};
+ghost use Rattle.advance.specs.Internal.{dueWith, poolChanged, mayMove, toldOf};
 ghost use Rattle.advance.specs.ServiceRule.{ruleOf};
 use moves::Choice;
 use policy::Account;
 use policy::Scheduler;
+use policy::Standing;
 use service::Service;
 use system::Answer;
 use system::DomId;
@@ -55,20 +58,12 @@ pub struct Advanced {
     pub answer: Answer,
 }
 
-// The standing of each slot, as arrays that a decision is lent; `left` is the service of a slot once it
-// has left its pCPU.
+// The standing of each slot, as arrays that a decision is lent.
 struct Table {
     kind: [u32; 128],
     mask: [u64; 128],
     service: [u32; 512],
-    left: [u32; 512],
     weight: [u32; 128],
-}
-
-// A system with no move left, and how many were made.
-struct Settled {
-    system: System,
-    count: usize,
 }
 
 // ---- the table of standings
@@ -96,31 +91,6 @@ fn kind_of(v: VirtualCpu, present: bool, quantum: Ticks, now: Ticks) -> u32
     }
 }
 
-// The service of a vCPU once it has left its pCPU; one that is on none has what it has, `row`.
-fn left_row(v: VirtualCpu, a: Account, row: Service, now: Ticks) -> Service
-    requires { ⌜ row ≡ held (serviceOf v a now) ⌝ }
-    ensures { λ r. ⌜ r ≡ held (serviceOf (offPcpu v now) a now) ⌝ }
-{
-    let state = v.state;
-    match state {
-        RunState::Offline => row,
-        RunState::Runnable => row,
-        RunState::Running { pcpu: _ } => {
-            policy::service_of(changes::left(v, RunState::Runnable, now), a, now)
-        }
-        RunState::Blocked => row,
-    }
-}
-
-// The four limbs of slot i.
-fn row_at(rows: &[u32; 512], i: usize) -> Service
-    requires { ⌜ i < 128 ⌝ }
-    ensures { λ r. ⌜ r ≡ rowAt (now (rows .entry)) i ⌝ }
-{
-    let j = i * 4;
-    [rows[j], rows[j + 1], rows[j + 2], rows[j + 3]]
-}
-
 fn put_row(rows: &mut [u32; 512], i: usize, row: Service)
     requires { ⌜ i < 128 ⌝ }
     ensures { λ _. ⌜ now (rows .exit) ≡ setRow (now (rows .entry)) i row ⌝ }
@@ -132,13 +102,37 @@ fn put_row(rows: &mut [u32; 512], i: usize, row: Service)
     rows[j + 3] = row[3];
 }
 
+// A vCPU's standing stored as slot i's.
+fn put_standing(
+    kind: &mut [u32; 128],
+    mask: &mut [u64; 128],
+    service: &mut [u32; 512],
+    weight: &mut [u32; 128],
+    i: usize,
+    v: VirtualCpu,
+    a: Account,
+    present: bool,
+    quantum: Ticks,
+    clock: Ticks,
+)
+    requires { ⌜ i < 128 ⌝ }
+    ensures { λ _. ⌜ now (kind .exit) ≡ set (now (kind .entry)) i (kindOf present false quantum clock v) ⌝ }
+    ensures { λ _. ⌜ now (mask .exit) ≡ set (now (mask .entry)) i (v .affinity) ⌝ }
+    ensures { λ _. ⌜ now (service .exit) ≡ setRow (now (service .entry)) i (held (serviceOf v a clock)) ⌝ }
+    ensures { λ _. ⌜ now (weight .exit) ≡ set (now (weight .entry)) i (usedWeight a) ⌝ }
+{
+    kind[i] = kind_of(v, present, quantum, clock);
+    mask[i] = v.affinity;
+    weight[i] = policy::used_weight(a);
+    put_row(service, i, policy::service_of(v, a, clock));
+}
+
 fn tabulate(s: System, p: Scheduler, now: Ticks) -> Table
-    ensures { λ r. ⌜ Tabulates s (ruleOf p) now (r .kind) (r .mask) (r .service) (r .left) (r .weight) ⌝ }
+    ensures { λ r. ⌜ Tabulates s (ruleOf p) now (r .kind) (r .mask) (r .service) (r .weight) (slots s) ⌝ }
 {
     let mut kind = [0u32; 128];
     let mut mask = [0u64; 128];
     let mut service = [0u32; 512];
-    let mut left = [0u32; 512];
     let mut weight = [0u32; 128];
     let n = least(s.domain_count, system::MAX_DOMAINS) * 8;
     let k = s.vcpus_per_domain;
@@ -146,20 +140,24 @@ fn tabulate(s: System, p: Scheduler, now: Ticks) -> Table
     while i < n {
         let v = s.vcpus[i];
         let a = policy::looked_up(p.domain_count, p.vcpus_per_domain, i, p.accounts[i]);
-        let row = policy::service_of(v, a, now);
-        let gone = left_row(v, a, row, now);
-        kind[i] = kind_of(v, i % 8 < k, p.quantum, now);
-        mask[i] = v.affinity;
-        weight[i] = policy::used_weight(a);
-        put_row(&mut service, i, row);
-        put_row(&mut left, i, gone);
+        put_standing(
+            &mut kind,
+            &mut mask,
+            &mut service,
+            &mut weight,
+            i,
+            v,
+            a,
+            i % 8 < k,
+            p.quantum,
+            now,
+        );
         i += 1;
     }
     Table {
         kind,
         mask,
         service,
-        left,
         weight,
     }
 }
@@ -216,9 +214,9 @@ fn onto_in(c: Choice) -> u32
     }
 }
 
-// The run time that it began from is a word.
+// The record of the vCPU that a choice moves, after it.
 fn record_after(c: Choice, v: VirtualCpu, now: Ticks) -> VirtualCpu
-    ensures { λ r. ⌜ (r ≡ recordAfter c v now) × (v .runtime < 2 ^ 64) ⌝ }
+    ensures { λ r. ⌜ r ≡ recordAfter c v now ⌝ }
 {
     match c {
         Choice::Run { at: _, pcpu } => changes::dispatched(v, pcpu, now),
@@ -273,43 +271,6 @@ fn most_moves(domain_count: usize, vcpus_per_domain: usize, pcpu_count: usize) -
     let v = least(vcpus_per_domain, system::MAX_VCPUS);
     let p = least(pcpu_count, system::MAX_PCPUS);
     d * v + 2 * p + 1
-}
-
-// Decides and enacts until there is nothing to do, under whatever rule the table is of. A vCPU that is
-// dispatched is put back where it was last; the table follows each move, so that only the slot that
-// moved is looked at again.
-fn settle(s: System, slice: Ticks, mut t: Table, now: Ticks) -> Settled
-    requires { ⌜ invariantsHold s ≡ true ⌝ }
-    requires { ⌜ SomeRule (Settleable s slice now (t .kind) (t .mask) (t .service) (t .left) (t .weight)) ⌝ }
-    ensures { λ r. ⌜ EachRule (Settleable s slice now (t .kind) (t .mask) (t .service) (t .left) (t .weight)) (λ ρ. Settles ρ now (limit s) s (r .system) (r .count)) ⌝ }
-{
-    let n = s.domain_count * 8;
-    let most = most_moves(s.domain_count, s.vcpus_per_domain, s.pcpu_count);
-    let pcpus = s.pcpus;
-    let mut idle = idle_set(pcpus, s.pcpu_count);
-    let mut system = s;
-    let mut count: usize = 0;
-    while count < most {
-        let cold = moves::decide(&t.kind, &t.mask, &t.service, &t.weight, n, idle);
-        if rests(cold) {
-            return Settled { system, count };
-        }
-        let i = slot_in(cold);
-        let u = system.vcpus[i];
-        let c = moves::back_to_last(cold, idle, t.mask[i], u.last);
-        let q = onto_in(c) as usize;
-        let v = record_after(c, u, now);
-        system.vcpus[i] = v;
-        system.pcpus[q] = PhysicalCpu {
-            occupant: occupant_after(c),
-        };
-        t.kind[i] = kind_of(v, true, slice, now);
-        let row = row_at(&t.left, i);
-        put_row(&mut t.service, i, row);
-        idle = idle - cleared(c) + freed(c);
-        count += 1;
-    }
-    Settled { system, count }
 }
 
 // A choice by the vCPU's ids. % 16 keeps the casts in range without a precondition.
@@ -369,26 +330,204 @@ pub fn next(s: System, p: Scheduler, now: Ticks) -> Recommendation
     }
 }
 
+// ---- an advance
+
+// What an advance has to do, by the vCPUs that were looked at.
+struct Due {
+    // Some vCPU joined the pool since the last accounting.
+    joined: bool,
+    // Some vCPU left it.
+    left: bool,
+    // Some vCPU waits.
+    waits: bool,
+    // Some vCPU has held its pCPU for the slice.
+    expired: bool,
+}
+
+impl Due {
+    const NOTHING: Due = Due {
+        joined: false,
+        left: false,
+        waits: false,
+        expired: false,
+    };
+}
+
+// What is due once a vCPU was looked at too.
+fn due_with(due: Due, v: VirtualCpu, a: Account, quantum: Ticks, now: Ticks) -> Due
+    ensures { λ r. ⌜ r ≡ dueWith due v a quantum now ⌝ }
+{
+    let state = v.state;
+    let was = a.was_schedulable;
+    match state {
+        RunState::Offline => Due {
+            joined: due.joined,
+            left: was | due.left,
+            waits: due.waits,
+            expired: due.expired,
+        },
+        RunState::Runnable => Due {
+            joined: !was | due.joined,
+            left: due.left,
+            waits: true,
+            expired: due.expired,
+        },
+        RunState::Running { pcpu: _ } => Due {
+            joined: !was | due.joined,
+            left: due.left,
+            waits: due.waits,
+            expired: (quantum <= system::elapsed(v, now)) | due.expired,
+        },
+        RunState::Blocked => Due {
+            joined: due.joined,
+            left: was | due.left,
+            waits: due.waits,
+            expired: due.expired,
+        },
+    }
+}
+
+// Whether an accounting would change the snapshot.
+fn pool_changed(due: Due) -> bool
+    ensures { λ r. ⌜ r ≡ poolChanged due ⌝ }
+{
+    due.joined | due.left
+}
+
+// Whether a move may be possible: none is unless somebody waits, and a pCPU is idle or may be freed.
+fn may_move(due: Due, idle: u64) -> bool
+    ensures { λ r. ⌜ r ≡ mayMove due idle ⌝ }
+{
+    due.waits & ((idle != 0) | due.expired)
+}
+
+fn told_of(sound: bool) -> Answer
+    ensures { λ r. ⌜ r ≡ toldOf sound ⌝ }
+{
+    if sound { Answer::Done } else { Answer::Unsound }
+}
+
 /// Accounts, then does what is next until nothing is.
-pub fn advance(s: System, p: Scheduler, now: Ticks) -> Advanced
+// One function: handed to a function of its own, the system and the policy would be copied.
+pub fn advance(mut s: System, mut p: Scheduler, now: Ticks) -> Advanced
     ensures { λ r. ⌜ advanceOutcome r ≡ counted (advance s p now) ⌝ }
 {
-    if !verdict::invariants_hold(s) {
-        return Advanced {
-            answer: Answer::Unsound,
-            system: s,
-            scheduler: p,
-            count: 0,
-        };
+    let k = s.vcpus_per_domain;
+    let m = s.pcpu_count;
+    let n = least(s.domain_count, system::MAX_DOMAINS) * 8;
+    let mut sound = system::within_sizes(s.domain_count, k, m);
+    let mut running: usize = 0;
+    let mut due = Due::NOTHING;
+    // Whether the system is sound, and what is due, by one look at each vCPU.
+    let mut i: usize = 0;
+    while i < n {
+        if i % 8 < k {
+            let v = s.vcpus[i];
+            let a = p.accounts[i];
+            due = due_with(due, v, a, p.quantum, now);
+            if verdict::runs_within(v, i % 8, k) {
+                let q = verdict::pcpu_index(v);
+                let c = s.pcpus[q];
+                if !verdict::is_backed(v, c, m, i / 8, i % 8) {
+                    sound = false;
+                }
+                running += 1;
+            }
+        }
+        i += 1;
     }
-    let scheduler = policy::accounted(s, p, now);
-    let t = tabulate(s, scheduler, now);
-    let r = settle(s, scheduler.quantum, t, now);
-    let system = r.system;
+    let pcpus = s.pcpus;
+    let mut idle = idle_set(pcpus, m);
+    if running != system::busy_in(pcpus, m) {
+        sound = false;
+    }
+    let mut count: usize = 0;
+    if sound {
+        if pool_changed(due) {
+            // The floor is that of those that stayed; only one that joined is placed at it.
+            let mut best = Standing::NOBODY;
+            if due.joined & p.wake_boost {
+                let mut j: usize = 0;
+                while j < n {
+                    if j % 8 < k {
+                        let v = s.vcpus[j];
+                        let a = policy::looked_up(
+                            p.domain_count,
+                            p.vcpus_per_domain,
+                            j,
+                            p.accounts[j],
+                        );
+                        best = policy::leader(best, v, a, now);
+                    }
+                    j += 1;
+                }
+            }
+            let h = least(k, p.vcpus_per_domain);
+            let mut j: usize = 0;
+            while j < n {
+                if j % 8 < h {
+                    if j / 8 < p.domain_count {
+                        let v = s.vcpus[j];
+                        let a = p.accounts[j];
+                        p.accounts[j] = policy::renewed(v, a, best, p.wake_boost);
+                    }
+                }
+                j += 1;
+            }
+        }
+        // The table follows each move, so that only the slot that moved is looked at again.
+        if may_move(due, idle) {
+            let mut kind = [0u32; 128];
+            let mut mask = [0u64; 128];
+            let mut service = [0u32; 512];
+            let mut weight = [0u32; 128];
+            let mut j: usize = 0;
+            while j < n {
+                let v = s.vcpus[j];
+                let a = policy::looked_up(p.domain_count, p.vcpus_per_domain, j, p.accounts[j]);
+                put_standing(
+                    &mut kind,
+                    &mut mask,
+                    &mut service,
+                    &mut weight,
+                    j,
+                    v,
+                    a,
+                    j % 8 < k,
+                    p.quantum,
+                    now,
+                );
+                j += 1;
+            }
+            let mut left = most_moves(s.domain_count, k, m);
+            while left > 0 {
+                let cold = moves::decide(&kind, &mask, &service, &weight, n, idle);
+                if rests(cold) {
+                    left = 0;
+                } else {
+                    let j = slot_in(cold);
+                    let u = s.vcpus[j];
+                    let c = moves::back_to_last(cold, idle, mask[j], u.last);
+                    let q = onto_in(c) as usize;
+                    let v = record_after(c, u, now);
+                    s.vcpus[j] = v;
+                    s.pcpus[q] = PhysicalCpu {
+                        occupant: occupant_after(c),
+                    };
+                    kind[j] = kind_of(v, true, p.quantum, now);
+                    let a = policy::looked_up(p.domain_count, p.vcpus_per_domain, j, p.accounts[j]);
+                    put_row(&mut service, j, policy::service_of(v, a, now));
+                    idle = idle - cleared(c) + freed(c);
+                    count += 1;
+                    left -= 1;
+                }
+            }
+        }
+    }
     Advanced {
-        answer: Answer::Done,
-        system,
-        scheduler,
-        count: r.count,
+        system: s,
+        scheduler: p,
+        count,
+        answer: told_of(sound),
     }
 }

@@ -247,10 +247,11 @@ pub fn pcpu_of(change: Change) -> usize
 }
 
 /// What a change tells, and what stands after it at the vCPU's slot and at the change's pCPU.
+// The answer stands last: behind it the records would lie across words, and each read of them would wait.
 pub struct After {
-    pub answer: Answer,
     pub vcpu: VirtualCpu,
     pub pcpu: PhysicalCpu,
+    pub answer: Answer,
 }
 
 /// A change of the vCPU `who`, where `v` is its record and `c` the change's pCPU.

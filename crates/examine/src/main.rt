@@ -175,8 +175,7 @@ fn put_answer(out: &mut [u8], number: u64, told: u64, moves: usize) -> usize
     ensures { λ r. ⌜ Placed (now (out .entry)) 0 (answerLine number told moves) (now (out .exit)) r ⌝ }
     ensures { λ r. ⌜ r ≤ 63 ⌝ }
 {
-    let line = text::answer_line(number, told, moves as u64);
-    text::append(out, 0, line)
+    text::put_answer_line(out, 0, number, told, moves as u64)
 }
 
 fn put_host(out: &mut [u8], at: usize, built: bool, h: Host, r: Record) -> usize

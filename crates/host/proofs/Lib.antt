@@ -1,3 +1,5 @@
+pub mod Laws
+mod Verdicts
 mod NewHost
 mod Snapshots
 mod WakeEdges

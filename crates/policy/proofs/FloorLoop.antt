@@ -1,4 +1,4 @@
--- A turn of `floor` is a step of its scan. Assumes nothing.
+-- A turn of the search for the floor is a step of its scan. Assumes nothing.
 use Prim.Native.Nat.{ℕ, suc, _/_, _%_}
 use mathlib.Core.Bool.{Bool, true, false, cond, _&&_}
 use mathlib.Core.Path.{_≡_, refl, sym, _∙_, ap, subst}
@@ -14,7 +14,7 @@ use Rattle.policy.specs.declared.Standing.{Standing}
 use Rattle.policy.specs.declared.Scheduler.{Scheduler}
 use Rattle.policy.specs.Accounts.{accountOf, wasSchedulable}
 use Rattle.policy.specs.Standing.{weightAt, serviceOf, serviceBy, serviceAt, deserves}
-use Rattle.policy.specs.Internal.{undercuts, leader, Leads, none, one}
+use Rattle.policy.specs.Elements.{undercuts, leader, Leads, none, one}
 
 -- the floor of the first n slots
 abbrev pub floorOf : System → Scheduler → ℕ → ℕ → Pick
@@ -64,10 +64,10 @@ module _ (s : System) (π : Scheduler) (now i : ℕ) (best : Standing) where
           subst (λ (t : Bool). after (cond t test true)) (sym e) (by-test f e v w test p)
 
   -- one that is present is compared
-  pub turned : present s i ≡ true → Leads s π now (floorOf s π now i) best
+  pub floor-turned : present s i ≡ true → Leads s π now (floorOf s π now i) best
       → Leads s π now (floorOf s π now (suc i)) (leader best (vcpuAt s i) account now)
   unfolding scan
-  turned p l = rw p (go (pooled s i && wasSchedulable π (i / 8) (i % 8)))
+  floor-turned p l = rw p (go (pooled s i && wasSchedulable π (i / 8) (i % 8)))
     where
       go : (t : Bool) → Leads s π now (cond t (against (deserves s π now) i (floorOf s π now i)) (floorOf s π now i))
           (cond t (cond (undercuts best (value service) (weightAt π i)) next best) best)
@@ -75,6 +75,6 @@ module _ (s : System) (π : Scheduler) (now i : ℕ) (best : Standing) where
       go false = l
 
   -- one that is not is passed over
-  pub absent : present s i ≡ false → Leads s π now (floorOf s π now i) best → Leads s π now (floorOf s π now (suc i)) best
+  pub floor-absent : present s i ≡ false → Leads s π now (floorOf s π now i) best → Leads s π now (floorOf s π now (suc i)) best
   unfolding scan
-  absent p l = rw p l
+  floor-absent p l = rw p l

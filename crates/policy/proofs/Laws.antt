@@ -10,7 +10,12 @@ pub use Rattle.policy.proofs.SettingLaws.{set-weighed, set-weight-eithe
 pub use Rattle.policy.proofs.DefaultLaws.{ranks-at, new-account, new-tabled, defaults}
 -- what accounting leaves
 pub use Rattle.policy.proofs.RenewalLaws.{renew-same, accounted-renewal}
+-- a turn of the search for the floor, and of an accounting
+pub use Rattle.policy.proofs.FloorLoop.{floorOf, floor-turned, floor-absent}
+pub use Rattle.policy.proofs.RenewalLoop.{renewed-at, renewed-unlifted, renews, outside-vcpus, outside-domains, renews-nothing}
 -- what the code reads at a slot is the account there
 pub use Rattle.policy.proofs.AccountReads.{zeros, looked}
 -- a slot's vCPU id, tested against a count that is held at 8
 pub use Rattle.policy.proofs.Ids.{vcpu-below, vcpu-beyond}
+-- to store one account, weighed, is to set the weight
+pub use Rattle.policy.proofs.WeightStores.{weight-stored}

@@ -7,5 +7,6 @@ mod FloorLoop
 mod RenewalLoop
 mod AccountPuts
 mod SettingLaws
+mod WeightStores
 mod DefaultLaws
 mod RenewalLaws

@@ -93,6 +93,10 @@ freshPolicy d v q =
 abbrev pub withWeight : Account → ℕ → Account
 withWeight a w = record { weight = w; offset = a .offset; «was_schedulable» = a .«was_schedulable» }
 
+-- the account kept for d/v with another weight, at least the least; outside the shape as it is
+abbrev pub weighed : ℕ → ℕ → ℕ → ℕ → ℕ → Account → Account
+weighed domains vcpus d v w a = cond (inShape domains vcpus d v) (withWeight a (raised w)) a
+
 -- what is set is at least the least
 unfoldable pub setWeight : Scheduler → ℕ → ℕ → ℕ → Scheduler
 setWeight π d v w = putAccount π d v (withWeight (accountOf π d v) (raised w))

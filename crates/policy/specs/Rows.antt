@@ -1,5 +1,5 @@
 -- What the requirements say of service, floor, accounting and the policy's own calls, in figures worked out by hand. Assumes nothing.
-use Prim.Native.Nat.{_-_, _^_}
+use Prim.Native.Nat.{ℕ, _-_, _^_}
 use mathlib.Core.Bool.{true, false}
 use mathlib.Core.Path.{refl}
 use mathlib.Core.List.{List, [], _∷_, _++_}
@@ -10,9 +10,12 @@ use Rattle.system.specs.Records.{inFlight}
 use Rattle.system.specs.Reads.{vcpuAt}
 use Rattle.system.specs.Shape.{fresh}
 use Rattle.system.specs.Writes.{putVcpu}
-use Rattle.policy.specs.Accounts.{accountAt, accountOf, putAccount, freshPolicy, setWeight, setWakeBoost, builtPolicy}
+use Rattle.policy.specs.declared.Account.{Account}
+use Rattle.policy.specs.declared.Standing.{Standing}
+use Rattle.policy.specs.Accounts.{accountAt, accountOf, putAccount, freshPolicy, weighed, setWeight, setWakeBoost, builtPolicy}
 use Rattle.policy.specs.Standing.{serviceBy, deserves}
 use Rattle.policy.specs.Accounting.{floor, renewed, renewFirst, accounted}
+use Rattle.policy.specs.Elements.{leader, renewedAt}
 use Rattle.policy.specs.RowHosts.{waits, runs, blocked, offline, pair, pooled, away, policy, unlifting, shaped}
 use Rattle.policy.specs.RowHosts.{service, first, sets, looks, offset, snapshots}
 
@@ -143,6 +146,10 @@ settings =
     ∷ rows (looks (setWeight (policy (pooled 3 9) (pooled 5 7)) 0 1 6) 0 0) (3 ∷ 9 ∷ 1 ∷ [])
     -- 0 is stored as 1, and a stored 0 is read as 1
     ∷ row ((accountOf (setWeight (policy (pooled 3 9) (pooled 5 7)) 0 1 0) 0 1) .weight) 1
+    -- the same of one account, in a shape of 2 domains of 3 vCPUs and outside it
+    ∷ rows ((weighed 2 3 1 2 6 (pooled 5 7)) .weight ∷ (weighed 2 3 1 2 0 (pooled 5 7)) .weight ∷ []) (6 ∷ 1 ∷ [])
+    ∷ rows ((weighed 2 3 2 2 6 (pooled 5 7)) .weight ∷ (weighed 2 3 1 3 6 (pooled 5 7)) .weight ∷ []) (5 ∷ 5 ∷ [])
+    ∷ row ((weighed 20 9 16 0 6 (pooled 5 7)) .weight) 5
     ∷ rows (looks (policy (pooled 3 9) (pooled 0 7)) 0 1) (1 ∷ 7 ∷ 1 ∷ [])
     -- boost set clears the offsets alone, on or off
     ∷ rows (looks (setWakeBoost (policy (pooled 3 9) (pooled 5 7)) false) 0 1) (5 ∷ 0 ∷ 1 ∷ [])
@@ -182,8 +189,42 @@ built =
     ∷ row ((builtPolicy 16 9 10) .number) 7
     ∷ []
 
+-- nobody leads, and one of that service and weight does
+abbrev unled : Standing
+unled = record { found = false; service = held 0; weight = 1 }
+
+abbrev led : ℕ → ℕ → Standing
+led service weight = record { found = true; service = held service; weight = weight }
+
+-- whether one leads, its service and its weight
+abbrev leads : Standing → List ℕ
+leads l = test (l .found) ∷ value (l .service) ∷ l .weight ∷ []
+
+-- an account's weight, offset and snapshot
+abbrev kept : Account → List ℕ
+kept a = a .weight ∷ value (a .offset) ∷ test (a .«was_schedulable») ∷ []
+
+-- the floor and the renewal by the records of one vCPU
+abbrev elements : List Row
+elements =
+    -- one that stayed, 5 and 10 in flight, leads where nobody did; not one that joined, nor one that left
+    rows (leads (leader unled (runs 0 5) (pooled 256 0) 100)) (1 ∷ 15 ∷ 256 ∷ [])
+    ∷ rows (leads (leader unled (waits 5) (away 256 0) 100)) (0 ∷ 0 ∷ 1 ∷ [])
+    ∷ rows (leads (leader unled (blocked 5) (pooled 256 0) 100)) (0 ∷ 0 ∷ 1 ∷ [])
+    -- 18 over 2 takes the lead from 10 over 1, 20 over 2 does not
+    ∷ rows (leads (leader (led 10 1) (waits 18) (pooled 2 0) 100)) (1 ∷ 18 ∷ 2 ∷ [])
+    ∷ rows (leads (leader (led 10 1) (waits 20) (pooled 2 0) 100)) (1 ∷ 10 ∷ 1 ∷ [])
+    -- one that joined, weight 2, run time 5, is placed at 10 over 1: 20 less 5
+    ∷ rows (kept (renewedAt (waits 5) (away 2 7) (led 10 1) true)) (2 ∷ 15 ∷ 1 ∷ [])
+    -- not with boost off, where nobody leads, or one that stayed or left
+    ∷ rows (kept (renewedAt (waits 5) (away 2 7) (led 10 1) false)) (2 ∷ 7 ∷ 1 ∷ [])
+    ∷ rows (kept (renewedAt (waits 5) (away 2 7) unled true)) (2 ∷ 7 ∷ 1 ∷ [])
+    ∷ rows (kept (renewedAt (waits 5) (pooled 2 7) (led 10 1) true)) (2 ∷ 7 ∷ 1 ∷ [])
+    ∷ rows (kept (renewedAt (blocked 5) (pooled 2 7) (led 10 1) true)) (2 ∷ 7 ∷ 0 ∷ [])
+    ∷ []
+
 abbrev pub table : List Row
-table = services ++ (floors ++ (offsets ++ (renewals ++ (outside ++ (settings ++ (unset ++ built))))))
+table = services ++ (floors ++ (offsets ++ (renewals ++ (outside ++ (settings ++ (unset ++ (built ++ elements)))))))
 
 pub table-due : AllDue table
 unfolding scan value limbs held moreDeserving inFlight vcpuAt fresh putVcpu accountAt accountOf putAccount freshPolicy setWeight

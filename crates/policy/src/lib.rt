@@ -4,16 +4,14 @@
 ghost use mathlib.Core.Path.{_≡_};
 ghost use Rattle.service.specs.Service.{value, held};
 ghost use Rattle.system.specs.States.{schedulable};
-ghost use Rattle.policy.specs.Accounts.{raised, lookedUp, usedWeight, weightOf, setWeight, setWakeBoost};
+ghost use Rattle.policy.specs.Accounts.{raised, lookedUp, usedWeight, weighed, weightOf, setWeight, setWakeBoost};
 ghost use Rattle.policy.specs.Accounts.{freshPolicy, policyOutcome, builtPolicy};
 ghost use Rattle.policy.specs.Standing.{serviceOf};
-ghost use Rattle.policy.specs.Accounting.{floor, accounted};
-ghost use Rattle.policy.specs.Internal.{undercuts, leader, Leads, liftedTo, renewedAt};
+ghost use Rattle.policy.specs.Elements.{undercuts, leader, liftedTo, renewedAt};
 use service::Service;
 use system::Answer;
 use system::DomId;
 use system::RunState;
-use system::System;
 use system::Ticks;
 use system::Vcpu;
 use system::VirtualCpu;
@@ -107,6 +105,27 @@ pub fn used_weight(a: Account) -> Weight
     raised(a.weight)
 }
 
+/// The account of vCPU dom/vcpu with another weight, at least the least; outside the shape as it is.
+pub fn weighed(
+    domain_count: usize,
+    vcpus_per_domain: usize,
+    dom: DomId,
+    vcpu: Vcpu,
+    weight: Weight,
+    stored: Account,
+) -> Account
+    ensures { λ r. ⌜ r ≡ weighed «domain_count» «vcpus_per_domain» dom vcpu weight stored ⌝ }
+{
+    if (dom as usize) < least(domain_count, system::MAX_DOMAINS) {
+        if (vcpu as usize) < least(vcpus_per_domain, system::MAX_VCPUS) {
+            let mut a = stored;
+            a.weight = raised(weight);
+            return a;
+        }
+    }
+    stored
+}
+
 /// A vCPU's service: its run time up to the reading, and the offset.
 pub fn service_of(v: VirtualCpu, a: Account, now: Ticks) -> Service
     ensures { λ r. ⌜ r ≡ held (serviceOf v a now) ⌝ }
@@ -130,15 +149,15 @@ fn is_schedulable(v: VirtualCpu) -> bool
 
 // ---- accounting
 
-// Who leads the scan for the floor so far.
-struct Standing {
-    found: bool,
-    service: [u32; 4],
-    weight: Weight,
+/// Who leads the scan for the floor so far.
+pub struct Standing {
+    pub found: bool,
+    pub service: [u32; 4],
+    pub weight: Weight,
 }
 
 impl Standing {
-    const NOBODY: Standing = Standing {
+    pub const NOBODY: Standing = Standing {
         found: false,
         service: [0; 4],
         weight: MIN_WEIGHT,
@@ -157,8 +176,8 @@ fn undercuts(best: Standing, service: [u32; 4], weight: Weight) -> bool
     }
 }
 
-// Who leads once a vCPU was compared: only one in the pool now and at the last snapshot can.
-fn leader(best: Standing, v: VirtualCpu, a: Account, now: Ticks) -> Standing
+/// Who leads once a vCPU was compared: only one in the pool now and at the last snapshot can.
+pub fn leader(best: Standing, v: VirtualCpu, a: Account, now: Ticks) -> Standing
     ensures { λ r. ⌜ r ≡ leader best v a now ⌝ }
 {
     let stayed = a.was_schedulable;
@@ -178,25 +197,6 @@ fn leader(best: Standing, v: VirtualCpu, a: Account, now: Ticks) -> Standing
     best
 }
 
-// The most deserving of those in the pool now that were at the last snapshot.
-fn floor(s: System, p: Scheduler, now: Ticks) -> Standing
-    ensures { λ r. ⌜ Leads s p now (floor s p now) r ⌝ }
-{
-    let n = least(s.domain_count, system::MAX_DOMAINS) * 8;
-    let k = s.vcpus_per_domain;
-    let mut best = Standing::NOBODY;
-    let mut i: usize = 0;
-    while i < n {
-        if i % 8 < k {
-            let v = s.vcpus[i];
-            let a = looked_up(p.domain_count, p.vcpus_per_domain, i, p.accounts[i]);
-            best = leader(best, v, a, now);
-        }
-        i += 1;
-    }
-    best
-}
-
 // The offset that places a vCPU at the floor: what the floor's service is worth at the vCPU's weight,
 // less what it ran.
 fn lifted(f: Standing, weight: Weight, runtime: Ticks) -> [u32; 4]
@@ -207,8 +207,8 @@ fn lifted(f: Standing, weight: Weight, runtime: Ticks) -> [u32; 4]
     service::difference(worth, service::from_u64(runtime))
 }
 
-// A vCPU's account, renewed: one that joined the pool is placed at the floor, if there is one.
-fn renewed(v: VirtualCpu, a: Account, f: Standing, wake_boost: bool) -> Account
+/// A vCPU's account, renewed: one that joined the pool is placed at the floor, if there is one.
+pub fn renewed(v: VirtualCpu, a: Account, f: Standing, wake_boost: bool) -> Account
     ensures { λ r. ⌜ r ≡ renewedAt v a f «wake_boost» ⌝ }
 {
     let stands = is_schedulable(v);
@@ -227,29 +227,6 @@ fn renewed(v: VirtualCpu, a: Account, f: Standing, wake_boost: bool) -> Account
         offset,
         was_schedulable: stands,
     }
-}
-
-/// The policy after an accounting: those that joined the pool are placed at the floor of those that
-/// stayed, and the snapshot is renewed.
-pub fn accounted(s: System, p: Scheduler, now: Ticks) -> Scheduler
-    ensures { λ r. ⌜ r ≡ accounted s p now ⌝ }
-{
-    let f = floor(s, p, now);
-    let n = least(s.domain_count, system::MAX_DOMAINS) * 8;
-    let k = least(s.vcpus_per_domain, p.vcpus_per_domain);
-    let mut q = p;
-    let mut i: usize = 0;
-    while i < n {
-        if i % 8 < k {
-            if i / 8 < p.domain_count {
-                let v = s.vcpus[i];
-                let a = q.accounts[i];
-                q.accounts[i] = renewed(v, a, f, p.wake_boost);
-            }
-        }
-        i += 1;
-    }
-    q
 }
 
 // ---- the policy's own calls
@@ -292,16 +269,10 @@ impl Scheduler {
     pub fn set_weight(self, dom: DomId, vcpu: Vcpu, weight: Weight) -> Scheduler
         ensures { λ r. ⌜ r ≡ setWeight self dom vcpu weight ⌝ }
     {
-        let d = dom as usize;
-        let v = vcpu as usize;
         let mut p = self;
-        if d < least(p.domain_count, system::MAX_DOMAINS) {
-            if v < least(p.vcpus_per_domain, system::MAX_VCPUS) {
-                let mut a = p.accounts[d * 8 + v];
-                a.weight = raised(weight);
-                p.accounts[d * 8 + v] = a;
-            }
-        }
+        let i = system::slot_read(dom, vcpu);
+        let a = p.accounts[i];
+        p.accounts[i] = weighed(p.domain_count, p.vcpus_per_domain, dom, vcpu, weight, a);
         p
     }
 

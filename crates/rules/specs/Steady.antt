@@ -1,15 +1,12 @@
--- What settling needs of a rule: moves at a clock change, at that clock, nobody's being barred, and nobody's service but that of a
--- runner that leaves. Assumes nothing.
-use Prim.Native.Nat.{ℕ, _^_, _<_}
+-- What settling needs of a rule: moves at a clock change, at that clock, nobody's being barred. Assumes nothing.
+use Prim.Native.Nat.{ℕ}
 use mathlib.Core.Path.{_≡_}
-use Rattle.system.specs.declared.RunState.the-variants.{Runnable, Running}
-use Rattle.system.specs.declared.VirtualCpu.{VirtualCpu}
+use Rattle.system.specs.declared.RunState.the-variants.{Running}
 use Rattle.system.specs.declared.System.{System}
 use Rattle.system.specs.Writes.{Tables}
 use Rattle.system.specs.Slots.{Present}
 use Rattle.system.specs.Reads.{stateAt}
 use Rattle.verdict.specs.Sound.{Sound}
-use Rattle.changes.specs.Records.{dispatched, left}
 use Rattle.sched.specs.CanRun.{CanRun}
 use Rattle.moves.specs.declared.Choice.{Choice}
 use Rattle.moves.specs.declared.Choice.the-variants.{Run, Preempt}
@@ -24,8 +21,3 @@ pub data CanMove (s : System) : Choice → Type 0 where
 pub record Steady (ρ : Rule) : Type 0 where
   pub barred : {s : System} {c : Choice} (now j : ℕ) → Tables s → Sound s → CanMove s c
       → ρ .barred ((enacted s now c) .system) now j ≡ ρ .barred s now j
-  -- who waits and is dispatched has what it had
-  pub on : (v : VirtualCpu) (p now i : ℕ) → v .state ≡ Runnable → ρ .service (dispatched v p now) now i ≡ ρ .service v now i
-  -- and has it still if it leaves at once
-  pub off : (v : VirtualCpu) (p now i : ℕ) → v .state ≡ Runnable → v .runtime < 2 ^ 64
-      → ρ .service (left (dispatched v p now) Runnable now) now i ≡ ρ .service v now i

@@ -2,6 +2,9 @@
 
 -- how a call can end: what holds of the system, and of every change that can be made to it, holds of what the call leaves
 pub use Rattle.sched.proofs.Cases.{requested-case, offline-all-case}
+-- a request is what its stores leave, by the elements that it reads, and these are in the tables
+pub use Rattle.sched.proofs.About.{pcpu-read-below}
+pub use Rattle.sched.proofs.Elements.{requested-by-elements, requested-by-stores}
 -- a system as built is sound
 pub use Rattle.sched.proofs.Fresh.{fresh-tables, fresh-vcpu, fresh-sound}
 -- what every call keeps: soundness and the shape; run times never fall

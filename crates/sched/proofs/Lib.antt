@@ -1,5 +1,6 @@
 pub mod Laws
-mod Lookup
+mod About
+mod Elements
 mod OfflineAllLoop
 mod Stores
 mod Legal

@@ -11,11 +11,20 @@ use Rattle.system.specs.Slots.{domains, vcpus, slot, Present}
 use Rattle.verdict.specs.Sound.{Sound}
 use Rattle.changes.specs.Changes.{offlined, pcpuOf}
 use Rattle.changes.specs.declared.Request.{Request}
+use Rattle.changes.specs.declared.Change.{Change}
 use Rattle.sched.specs.Steps.{changeOf, made, offlineFirst}
 use Rattle.sched.specs.Invariants.{Keeps}
 use Rattle.sched.proofs.LegalRequests.{made-legal}
 use Rattle.sched.proofs.Invariants.{first-keeps}
-use Rattle.sched.proofs.Lookup.{legal-in-table}
+use Rattle.sched.proofs.Legal.{Legal, stays, keeps, busy, goes-on, comes-off}
+
+-- a legal change names a pCPU of the table
+legal-in-table : {s : System} {i : ℕ} {c : Change} {r : SystemOutcome} → Sound s → Present s i → Legal s i c r → pcpuOf c < 64
+legal-in-table S h (stays a) = omega arith
+legal-in-table S h (keeps k w) = omega arith
+legal-in-table S h (busy l e) = omega arith
+legal-in-table S h (goes-on c o w) = omega (arith, c .exists)
+legal-in-table {s} {i} S h (comes-off {v} {p} now on k w) = let o = S .runs i p h on in omega (arith, o .exists)
 
 -- s is s₀ after u turns, and vCPU u of the domain is there
 pub record Turn (s₀ s : System) (d now u : ℕ) : Type 0 where

@@ -1,14 +1,17 @@
 -- What the stores of a change leave is what the definition says. Assumes nothing.
 use Prim.Native.Nat.{ℕ, _/_, _%_}
 use mathlib.Core.Bool.{Bool, true, false, cond}
-use mathlib.Core.Path.{_≡_, refl, ap, _∙_}
-use lib.ListN.{getD, set}
+use mathlib.Core.Path.{_≡_, refl, sym, _∙_, ap}
+use lib.ListN.{getD}
 use lib.Seq.{set-getD}
+use Rattle.system.specs.declared.VirtualCpu.{VirtualCpu}
 use Rattle.system.specs.declared.Occupant.{Occupant}
 use Rattle.system.specs.declared.Occupant.the-variants.{Vcpu}
+use Rattle.system.specs.declared.PhysicalCpu.{PhysicalCpu}
 use Rattle.system.specs.declared.System.{System}
-use Rattle.system.specs.declared.Answer.the-variants.{Done, PcpuBusy}
-use Rattle.system.specs.Answers.{told, SystemOutcome}
+use Rattle.system.specs.declared.Answer.{Answer}
+use Rattle.system.specs.declared.Answer.the-variants.{PcpuBusy}
+use Rattle.system.specs.Answers.{SystemOutcome}
 use Rattle.system.specs.Shape.{noVcpu, idle}
 use Rattle.system.specs.Reads.{occupantAt, isIdle}
 use Rattle.system.specs.Writes.{putVcpu, putOccupant}
@@ -16,43 +19,37 @@ use Rattle.changes.specs.Changes.{pcpuOf, stored}
 use Rattle.changes.specs.declared.Change.{Change}
 use Rattle.changes.specs.declared.Change.the-variants.{Refuse, Write, Enter, Leave}
 use Rattle.changes.specs.declared.After.{After}
-use Rattle.sched.specs.Steps.{applied, tested, done}
+use Rattle.sched.specs.Steps.{applied, refused, tested}
+use Rattle.sched.specs.Elements.{kept, stores}
+use Rattle.sched.proofs.About.{About, about-own}
 
--- what is told, and the system with the records stored at slot i and at pCPU p
-abbrev stores : System → ℕ → ℕ → After → SystemOutcome
-stores s i p r =
-    record {
-      number = told (r .answer);
-      system =
-          record {
-            «domain_count» = s .«domain_count»;
-            «vcpus_per_domain» = s .«vcpus_per_domain»;
-            «pcpu_count» = s .«pcpu_count»;
-            vcpus = set (s .vcpus) i (r .vcpu);
-            pcpus = set (s .pcpus) p (r .pcpu);
-          };
-    }
+module _ (s : System) (i p : ℕ) where
+  abbrev x : VirtualCpu
+  x = getD (s .vcpus) i noVcpu
 
-module _ (s : System) (i : ℕ) where
+  abbrev c : PhysicalCpu
+  c = getD (s .pcpus) p idle
+
   abbrev who : Occupant
   who = Vcpu (i / 8) (i % 8)
 
-  -- a refused change, or one of no pCPU, stores what is there
-  after : (x : Change) → stores s i (pcpuOf x) (stored x who (getD (s .vcpus) i noVcpu) (getD (s .pcpus) (pcpuOf x) idle)) ≡ applied s i x
-  unfolding applied putVcpu putOccupant occupantAt
-  after (Refuse a) = rw (set-getD (s .vcpus) i noVcpu, set-getD (s .pcpus) 0 idle)
-  after (Write v) = rw (set-getD (s .pcpus) 0 idle)
-  after (Enter v p) = go (isIdle ((getD (s .pcpus) p idle) .occupant))
-    where
-      go : (b : Bool)
-          → stores s i p
-          (cond b (record { answer = Done; vcpu = v; pcpu = record { occupant = who } })
-          (record { answer = PcpuBusy; vcpu = getD (s .vcpus) i noVcpu; pcpu = getD (s .pcpus) p idle }))
-          ≡ tested b PcpuBusy s (done (putOccupant (putVcpu s i v) p who))
-      go true = refl
-      go false = rw (set-getD (s .vcpus) i noVcpu, set-getD (s .pcpus) p idle)
-  after (Leave v p) = refl
+  -- a refusal stores what is there
+  stores-kept : (a : Answer) → stores s i p (kept a x c) ≡ refused a s
+  stores-kept a = rw (set-getD (s .vcpus) i noVcpu, set-getD (s .pcpus) p idle)
 
-  pub made-by-stores : {x y : Change} {o : Occupant} {p : ℕ} {r : After} → x ≡ y → o ≡ who → p ≡ pcpuOf x
-      → r ≡ stored x o (getD (s .vcpus) i noVcpu) (getD (s .pcpus) p idle) → stores s i p r ≡ applied s i y
-  made-by-stores {x} e eo ep er = rw (er, eo, ep) (after x ∙ ap (applied s i) e)
+  pub stores-tested : (b : Bool) (a : Answer) (e : After) (r : SystemOutcome) → (b ≡ true → stores s i p e ≡ r)
+      → stores s i p (cond b e (kept a x c)) ≡ tested b a s r
+  stores-tested true a e r f = f refl
+  stores-tested false a e r f = stores-kept a
+
+  -- at any index p, if it is the change's where that has one: else it stores there what is there
+  pub stores-applied : (y : Change) → About y p → stores s i p (stored y who x c) ≡ applied s i y
+  unfolding applied putVcpu putOccupant occupantAt
+  stores-applied (Refuse a) h = stores-kept a
+  stores-applied (Write v) h = rw (set-getD (s .pcpus) p idle)
+  stores-applied (Enter v q) h = rw (sym h) (stores-tested (isIdle (c .occupant)) PcpuBusy _ _ (λ e. refl))
+  stores-applied (Leave v q) h = rw (sym h)
+
+pub made-by-stores : (s : System) (i : ℕ) {y z : Change} {o : Occupant} {p : ℕ} {r : After} → y ≡ z → o ≡ Vcpu (i / 8) (i % 8) → p ≡ pcpuOf y
+    → r ≡ stored y o (getD (s .vcpus) i noVcpu) (getD (s .pcpus) p idle) → stores s i p r ≡ applied s i z
+made-by-stores s i {y} e eo ep er = rw (er, eo, ep) (stores-applied s i (pcpuOf y) y (about-own y) ∙ ap (applied s i) e)

@@ -1,5 +1,5 @@
 pub mod Steps
-pub mod Internal
+pub mod Elements
 pub mod Answered
 pub mod Found
 pub mod Invariants

@@ -1,5 +1,6 @@
--- What calls are told, in the order of the tests, and what `offline_all` leaves, by hand from the requirements. Assumes nothing.
-use Prim.Native.Nat.{ℕ, _-_, _^_}
+-- What calls are told, in the order of the tests, and what they leave, by hand from the requirements. Assumes nothing.
+use Prim.Native.Nat.{ℕ, _+_, _-_, _*_, _^_}
+use mathlib.Core.Bool.{Bool, true, false}
 use mathlib.Core.Path.{refl}
 use mathlib.Core.List.{List, [], _∷_, _++_, map}
 use Rattle.rows.specs.Rows.{Row, row, rows, AllDue}
@@ -7,6 +8,7 @@ use Rattle.system.specs.declared.RunState.{RunState}
 use Rattle.system.specs.declared.RunState.the-variants.{Offline, Runnable, Running, Blocked}
 use Rattle.system.specs.declared.Occupant.{Occupant}
 use Rattle.system.specs.declared.Occupant.the-variants.{Idle, Vcpu}
+use Rattle.system.specs.declared.VirtualCpu.{VirtualCpu}
 use Rattle.system.specs.declared.System.{System}
 use Rattle.system.specs.Answers.{SystemOutcome}
 use Rattle.system.specs.Reads.{vcpuAt, occupantAt, stateAt, runtimeAt}
@@ -14,13 +16,19 @@ use Rattle.system.specs.Shape.{fresh}
 use Rattle.system.specs.Slots.{slot}
 use Rattle.system.specs.Writes.{putVcpu, putOccupant}
 use Rattle.verdict.specs.Violations.{slotViolation, pcpuViolation, earliest, firstViolation, invariantsHold}
+use Rattle.changes.specs.declared.Request.{Request}
 use Rattle.changes.specs.Records.{dispatched, left}
 use Rattle.sched.specs.Steps.{applied, requested, offlineFirst, offlineAll}
 use Rattle.sched.specs.Steps.{admit, run, preempt, block, wake, setAffinity, offline}
+use Rattle.sched.specs.Elements.{pcpuRead, effectOf, stores}
 
--- d/v in a state, with a mask; it ran for 7 ticks and was dispatched at 100
+-- a vCPU in a state, with a mask; it ran for 7 ticks and was dispatched at 100
+abbrev vcpu : RunState → ℕ → VirtualCpu
+vcpu st m = record { state = st; runtime = 7; «dispatched_at» = 100; affinity = m; last = 64 }
+
+-- d/v is that
 abbrev is : ℕ → ℕ → RunState → ℕ → System → System
-is d v st m s = putVcpu s (slot d v) (record { state = st; runtime = 7; «dispatched_at» = 100; affinity = m; last = 64 })
+is d v st m s = putVcpu s (slot d v) (vcpu st m)
 
 -- 2 domains of 3 vCPUs on 2 pCPUs: 0/0 runs on pCPU 0; 0/1 is Blocked; 0/2 is Offline; 1/0 is Runnable, as is 1/1, which admits
 -- pCPU 1 alone
@@ -78,11 +86,12 @@ state Runnable = 1
 state (Running p) = 2
 state Blocked = 3
 
+-- 0 idle, else 1 + 10 × domain + vCPU
 abbrev holder : Occupant → ℕ
 holder Idle = 0
-holder (Vcpu d v) = 1
+holder (Vcpu d v) = 1 + 10 * d + v
 
--- the states of 0/0, 0/1, 0/2, 1/0 and 1/1, and whether pCPUs 0 and 1 are held
+-- the states of 0/0, 0/1, 0/2, 1/0 and 1/1, and who holds pCPUs 0 and 1
 abbrev seen : System → List ℕ
 seen s =
     state (stateAt s 0)
@@ -106,7 +115,7 @@ effects =
     rows (seen host) (2 ∷ 3 ∷ 0 ∷ 1 ∷ 1 ∷ 1 ∷ 0 ∷ [])
     -- a call goes to the vCPU of its ids
     ∷ rows (seen ((block host 1 0 120) .system)) (2 ∷ 3 ∷ 0 ∷ 3 ∷ 1 ∷ 1 ∷ 0 ∷ [])
-    ∷ rows (seen ((run host 1 1 1 120) .system)) (2 ∷ 3 ∷ 0 ∷ 1 ∷ 2 ∷ 1 ∷ 1 ∷ [])
+    ∷ rows (seen ((run host 1 1 1 120) .system)) (2 ∷ 3 ∷ 0 ∷ 1 ∷ 2 ∷ 1 ∷ 12 ∷ [])
     ∷ rows (seen ((preempt host 0 0 120) .system)) (1 ∷ 3 ∷ 0 ∷ 1 ∷ 1 ∷ 0 ∷ 0 ∷ [])
     -- a whole domain at 120: the run time of who ran rises to 27, the masks of those not Offline are full, the Offline one keeps its own
     ∷ rows (seen ((offlineAll host 0 120) .system)) (0 ∷ 0 ∷ 0 ∷ 1 ∷ 1 ∷ 0 ∷ 0 ∷ [])
@@ -120,7 +129,34 @@ effects =
     ∷ rows (masks ((setAffinity host 0 2 (2 ^ 64 - 1)) .system)) (3 ∷ 1 ∷ 3 ∷ [])
     ∷ []
 
-pub due : AllDue (orders ++ effects)
+-- ---- by elements
+
+-- on a host of 2 domains of 3 vCPUs on 2 pCPUs, a request of d/v that admits pCPU 1 alone, where the pCPU that it reads is held so: the
+-- number told, the state and the run time, and who holds the pCPU
+abbrev after : Bool → ℕ → ℕ → Request → RunState → Occupant → List ℕ
+after sound d v q st o =
+    let a = effectOf sound 2 3 2 d v q (vcpu st 2) (record { occupant = o }) in
+    told (stores host 0 0 a) ∷ state (a .vcpu .state) ∷ a .vcpu .runtime ∷ holder (a .pcpu .occupant) ∷ []
+
+abbrev pub elements : List Row
+elements =
+    -- the pCPU that a run asks for, else the one that the vCPU is on; past the table one of it
+    rows (pcpuRead (Request.Run 3 0) (vcpu (Running 5) 2) ∷ pcpuRead (Request.Run 67 0) (vcpu Runnable 2) ∷ []) (3 ∷ 3 ∷ [])
+    ∷ rows (pcpuRead (Request.Block 0) (vcpu (Running 5) 2) ∷ pcpuRead (Request.Block 0) (vcpu (Running 69) 2) ∷ []) (5 ∷ 5 ∷ [])
+    ∷ row (pcpuRead Request.Admit (vcpu Offline 2)) 0
+    -- 8, 3, 1 and 2, in this order, and nothing changes
+    ∷ rows (after false 2 3 (Request.Run 2 120) Runnable Idle) (8 ∷ 1 ∷ 7 ∷ 0 ∷ [])
+    ∷ rows (after true 2 3 (Request.Run 2 120) Runnable Idle) (3 ∷ 1 ∷ 7 ∷ 0 ∷ [])
+    ∷ rows (after true 2 3 (Request.Run 1 120) Runnable Idle) (1 ∷ 1 ∷ 7 ∷ 0 ∷ [])
+    ∷ rows (after true 1 3 (Request.Run 1 120) Runnable Idle) (2 ∷ 1 ∷ 7 ∷ 0 ∷ [])
+    ∷ rows (after true 2 3 (Request.Preempt 120) (Running 1) (Vcpu 1 2)) (1 ∷ 2 ∷ 7 ∷ 13 ∷ [])
+    -- a run onto an idle pCPU, and onto one that is held; a leave, by 20 ticks
+    ∷ rows (after true 1 2 (Request.Run 1 120) Runnable Idle) (0 ∷ 2 ∷ 7 ∷ 13 ∷ [])
+    ∷ rows (after true 1 2 (Request.Run 1 120) Runnable (Vcpu 0 1)) (5 ∷ 1 ∷ 7 ∷ 2 ∷ [])
+    ∷ rows (after true 1 2 (Request.Block 120) (Running 1) (Vcpu 1 2)) (0 ∷ 3 ∷ 27 ∷ 0 ∷ [])
+    ∷ []
+
+pub due : AllDue (orders ++ effects ++ elements)
 unfolding vcpuAt occupantAt fresh putVcpu putOccupant slotViolation pcpuViolation earliest firstViolation invariantsHold dispatched left
-    applied requested offlineFirst offlineAll
+    applied requested offlineFirst offlineAll effectOf
 due = refl

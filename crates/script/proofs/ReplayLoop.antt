@@ -8,15 +8,10 @@ use native.Mathlib.Numerals.{add-one}
 use native.Mathlib.Omega.{arith}
 use lib.ListN.{length, take, drop, length-drop}
 use lib.Seq.{take-all}
-use Rattle.system.specs.declared.Answer.{Answer}
 use Rattle.system.specs.Answers.{told}
-use Rattle.system.specs.Shape.{withinSizes}
 use Rattle.host.specs.declared.Host.{Host}
 use Rattle.host.specs.declared.Outcome.{Outcome}
-use Rattle.host.specs.declared.Call.{Call}
-use Rattle.host.specs.Step.{step, freshHost}
-use Rattle.host.specs.Outcomes.{HostOutcome, hostOutcome, stepCounted, builtHost}
-use Rattle.records.specs.declared.Shape.{Shape}
+use Rattle.host.specs.Outcomes.{HostOutcome, hostOutcome}
 use Rattle.records.specs.declared.Plan.{Plan}
 use Rattle.records.specs.Records.{planOf}
 use Rattle.text.specs.Lines.{answerLine}
@@ -92,32 +87,3 @@ pub placed-as : {before t t′ after after′ : List ℕ} {at end end′ : ℕ} 
     → Placed before at t′ after′ end′
 placed-as {before} {at = at} p e f g =
     record { bytes = f ∙ p .bytes ∙ ap (put before at) e; past = g ∙ p .past ∙ ap (λ (u : List ℕ). at + length u) e }
-
--- a build moves nobody
-built-moves : (d v p q : ℕ) → (builtHost d v p q) .count ≡ 0
-built-moves d v p q = go (withinSizes d v p)
-  where
-    go : (b : Bool)
-        → (cond {A = HostOutcome} b (record { number = 0; host = freshHost d v p d v q; count = 0 }) (record { number = 7; host = freshHost 0 0 0 0 0 0; count = 0 })) .count ≡ 0
-    go true = refl
-    go false = refl
-
--- what each kind of plan hands back
-module _ (h : Host) {h′ : Host} {p : Plan} {answer : Answer} {moves : ℕ} where
-  pub told-refused : {a : Answer} → p ≡ Plan.Refuse a → h′ ≡ h → answer ≡ a → moves ≡ 0
-      → hostOutcome (record { host = h′; answer = answer; count = moves }) ≡ carried h p
-  unfolding carried
-  told-refused e f g k = rw (e, f, g, k)
-
-  pub told-built : {s : Shape} (t : Outcome) → p ≡ Plan.Build s
-      → hostOutcome t ≡ builtHost (s .«num_domains») (s .«vcpus_per_domain») (s .«num_pcpus») (s .quantum)
-      → h′ ≡ t .host → answer ≡ t .answer → moves ≡ 0 → hostOutcome (record { host = h′; answer = answer; count = moves }) ≡ carried h p
-  unfolding carried
-  told-built {s} t e made f g k =
-      let none = ap (λ (x : HostOutcome). x .count) made ∙ built-moves (s .«num_domains») (s .«vcpus_per_domain») (s .«num_pcpus») (s .quantum) in
-      rw (e, f, g, k ∙ sym none) made
-
-  pub told-called : {c : Call} (t : Outcome) → p ≡ Plan.Call c → hostOutcome t ≡ stepCounted (step h c) → h′ ≡ t .host → answer ≡ t .answer
-      → moves ≡ t .count → hostOutcome (record { host = h′; answer = answer; count = moves }) ≡ carried h p
-  unfolding carried
-  told-called t e made f g k = rw (e, f, g, k) made

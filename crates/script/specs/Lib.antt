@@ -1,5 +1,6 @@
 pub mod HostText
 pub mod Script
+pub mod Internal
 pub mod Laws
 pub mod Computing
 pub mod Example

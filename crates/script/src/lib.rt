@@ -12,17 +12,25 @@ ghost use Rattle.records.specs.Records.{planOf};
 ghost use Rattle.text.specs.Lines.{answerLine};
 ghost use Rattle.text.specs.Places.{Placed};
 ghost use Rattle.script.specs.HostText.{stateNumber, pcpuNumber, clockNumber, slotRow, pcpuRow, vcpuRows, pcpuRows, hostText};
-ghost use Rattle.script.specs.Script.{begun, builtAfter, room, taken, takenOf, Replayed};
+ghost use Rattle.script.specs.Script.{begun, carried, builtAfter, room, taken, takenOf, Replayed};
+ghost use Rattle.script.specs.Internal.{hostOf, taskOfCall, taskOf};
+use changes::After;
+use changes::Request;
+use host::Call;
 use host::Host;
 use host::Outcome;
 use policy::Scheduler;
+use policy::Weight;
 use records::Plan;
 use records::Shape;
 use system::Answer;
+use system::DomId;
 use system::Occupant;
 use system::PhysicalCpu;
 use system::RunState;
 use system::System;
+use system::Ticks;
+use system::Vcpu;
 use system::VirtualCpu;
 use system::least;
 
@@ -68,6 +76,82 @@ fn built_of(shape: Shape) -> Outcome
     )
 }
 
+// What a host is told, by value.
+fn carried(h: Host, plan: Plan) -> Outcome
+    ensures { λ r. ⌜ hostOutcome r ≡ carried h plan ⌝ }
+{
+    match plan {
+        Plan::Refuse(answer) => Outcome {
+            host: h,
+            count: 0,
+            answer,
+        },
+        Plan::Build(shape) => built_of(shape),
+        Plan::Call(call) => host::step(h, call),
+    }
+}
+
+// What a record touches: the records of one vCPU, an account, or the whole host; an advance is by itself.
+enum Task {
+    Ask {
+        dom: DomId,
+        vcpu: Vcpu,
+        request: Request,
+    },
+    Weigh {
+        dom: DomId,
+        vcpu: Vcpu,
+        weight: Weight,
+    },
+    Advance {
+        now: Ticks,
+    },
+    Whole,
+}
+
+fn ask(dom: DomId, vcpu: Vcpu, request: Request) -> Task
+    ensures { λ r. ⌜ r ≡ Task.Ask dom vcpu request ⌝ }
+{
+    Task::Ask { dom, vcpu, request }
+}
+
+// What a call touches of a host of so many pCPUs, to which a mask is clipped.
+fn task_of_call(call: Call, pcpu_count: usize) -> Task
+    ensures { λ r. ⌜ r ≡ taskOfCall call «pcpu_count» ⌝ }
+{
+    match call {
+        Call::Admit { dom, vcpu } => ask(dom, vcpu, Request::Admit),
+        Call::Run {
+            dom,
+            vcpu,
+            pcpu,
+            now,
+        } => ask(dom, vcpu, Request::Run { pcpu, now }),
+        Call::Preempt { dom, vcpu, now } => ask(dom, vcpu, Request::Preempt { now }),
+        Call::Block { dom, vcpu, now } => ask(dom, vcpu, Request::Block { now }),
+        Call::Wake { dom, vcpu } => ask(dom, vcpu, Request::Wake),
+        Call::Offline { dom, vcpu, now } => ask(dom, vcpu, Request::Offline { now }),
+        Call::OfflineAll { dom: _, now: _ } => Task::Whole,
+        Call::SetAffinity { dom, vcpu, mask } => {
+            let clipped = masks::clip(mask, pcpu_count);
+            ask(dom, vcpu, Request::SetAffinity { mask: clipped })
+        }
+        Call::SetWeight { dom, vcpu, weight } => Task::Weigh { dom, vcpu, weight },
+        Call::SetWakeBoost { enabled: _ } => Task::Whole,
+        Call::Advance { now } => Task::Advance { now },
+    }
+}
+
+fn task_of(plan: Plan, pcpu_count: usize) -> Task
+    ensures { λ r. ⌜ r ≡ taskOf plan «pcpu_count» ⌝ }
+{
+    match plan {
+        Plan::Refuse(_) => Task::Whole,
+        Plan::Build(_) => Task::Whole,
+        Plan::Call(call) => task_of_call(call, pcpu_count),
+    }
+}
+
 fn built_after(built: bool, plan: Plan) -> bool
     ensures { λ r. ⌜ r ≡ builtAfter built plan ⌝ }
 {
@@ -83,8 +167,7 @@ fn put_answer(out: &mut [u8], at: usize, number: u64, answer: Answer, moves: usi
     ensures { λ r. ⌜ Placed (now (out .entry)) at (answerLine number (told answer) moves) (now (out .exit)) r ⌝ }
     ensures { λ r. ⌜ r ≤ at + 63 ⌝ }
 {
-    let line = text::answer_line(number, system::number_of(answer), moves as u64);
-    text::append(out, at, line)
+    text::put_answer_line(out, at, number, system::number_of(answer), moves as u64)
 }
 
 // ---- the host after it
@@ -197,13 +280,11 @@ fn put_pcpus(out: &mut [u8], at: usize, s: System) -> usize
     past
 }
 
-fn put_host(out: &mut [u8], at: usize, h: Host) -> usize
+fn put_host(out: &mut [u8], at: usize, s: System, p: Scheduler) -> usize
     requires { ⌜ at + 28544 ≤ length (now out) ⌝ }
-    ensures { λ r. ⌜ Placed (now (out .entry)) at (hostText h) (now (out .exit)) r ⌝ }
+    ensures { λ r. ⌜ Placed (now (out .entry)) at (hostText (hostOf s p)) (now (out .exit)) r ⌝ }
     ensures { λ r. ⌜ r ≤ at + 28544 ⌝ }
 {
-    let s = h.system;
-    let p = h.scheduler;
     let past = put_vcpus(out, at, s, p);
     put_pcpus(out, past, s)
 }
@@ -241,59 +322,118 @@ fn plan_at(built: bool, bytes: &[u8], i: usize) -> Plan
     records::plan_of(built, &bytes[from..])
 }
 
-fn taken_of(number: u64, built: bool, host: Host, records: usize, written: usize) -> Taken
-    ensures { λ r. ⌜ r ≡ takenOf number built host records written ⌝ }
+fn taken_of(
+    number: u64,
+    built: bool,
+    s: System,
+    p: Scheduler,
+    records: usize,
+    written: usize,
+) -> Taken
+    ensures { λ r. ⌜ r ≡ takenOf number built (hostOf s p) records written ⌝ }
 {
     Taken {
         script: Script {
             number,
             built,
-            host,
+            host: Host {
+                system: s,
+                scheduler: p,
+            },
         },
         records,
         written,
     }
 }
 
-// The first n records. The host is stepped here: handed to a function of its own it would be copied.
+// The first n records. The host is stepped here, record by record in place: handed to a function of its
+// own it would be copied, and tested, for each.
 fn stepped(script: Script, bytes: &[u8], out: &mut [u8], states: bool, n: usize) -> Taken
     requires { ⌜ n ≤ taken states (now bytes) (now out) ⌝ }
     ensures { λ r. ⌜ Replayed states script (now (bytes .entry)) n (now (out .entry)) r (now (out .exit)) ⌝ }
 {
     let mut number = script.number;
     let mut built = script.built;
-    let mut h = script.host;
+    let host = script.host;
+    let mut s = host.system;
+    let mut p = host.scheduler;
+    let mut sound = verdict::invariants_hold(s);
     let mut written: usize = 0;
     let mut i: usize = 0;
     while i < n {
         let plan = plan_at(built, bytes, i);
+        let task = task_of(plan, s.pcpu_count);
         let mut answer = Answer::Done;
         let mut moves: usize = 0;
-        match plan {
-            Plan::Refuse(refusal) => {
-                answer = refusal;
+        match task {
+            Task::Ask { dom, vcpu, request } => {
+                let j = system::slot_read(dom, vcpu);
+                let v = s.vcpus[j];
+                let q = sched::pcpu_read(request, v);
+                let c = s.pcpus[q];
+                let After {
+                    answer: told,
+                    vcpu: w,
+                    pcpu: d,
+                } = sched::effect_of(
+                    sound,
+                    s.domain_count,
+                    s.vcpus_per_domain,
+                    s.pcpu_count,
+                    dom,
+                    vcpu,
+                    request,
+                    v,
+                    c,
+                );
+                s.vcpus[j] = w;
+                s.pcpus[q] = d;
+                answer = told;
             }
-            Plan::Build(shape) => {
-                let told = built_of(shape);
-                h = told.host;
-                answer = told.answer;
+            Task::Weigh { dom, vcpu, weight } => {
+                let j = system::slot_read(dom, vcpu);
+                let a = p.accounts[j];
+                p.accounts[j] = policy::weighed(
+                    p.domain_count,
+                    p.vcpus_per_domain,
+                    dom,
+                    vcpu,
+                    weight,
+                    a,
+                );
             }
-            Plan::Call(call) => {
-                let told = host::step(h, call);
-                h = told.host;
+            Task::Advance { now } => {
+                let told = advance::advance(s, p, now);
+                s = told.system;
+                p = told.scheduler;
                 answer = told.answer;
                 moves = told.count;
+            }
+            Task::Whole => {
+                let told = carried(
+                    Host {
+                        system: s,
+                        scheduler: p,
+                    },
+                    plan,
+                );
+                let h = told.host;
+                s = h.system;
+                p = h.scheduler;
+                answer = told.answer;
+                moves = told.count;
+                sound = verdict::invariants_hold(s);
             }
         }
         built = built_after(built, plan);
         number = std::num::wrapping_add_u64(number, 1);
         written = put_answer(out, written, number, answer, moves);
         if is_shown(states, built) {
-            written = put_host(out, written, h);
+            written = put_host(out, written, s, p);
         }
         i += 1;
     }
-    taken_of(number, built, h, n, written)
+    taken_of(number, built, s, p, n, written)
 }
 
 /// Takes as many records as there are and as there is room for: 63 bytes for each, or 28,700 where

@@ -16,7 +16,7 @@ use Rattle.system.specs.declared.Answer.the-variants.{FoundOffline, Foun
 use Rattle.system.specs.Answers.{told}
 use Rattle.system.specs.Records.{inFlight}
 use Rattle.system.specs.Shape.{fresh, builtSystem}
-use Rattle.system.specs.Slots.{domains, pcpus, slot}
+use Rattle.system.specs.Slots.{domains, pcpus, slot, slotRead}
 use Rattle.system.specs.Reads.{vcpuAt, occupantAt, vcpuOf, vcpuCount, stateOf, isRunning, runtimeOf, onCpuSince, occupantOf}
 use Rattle.system.specs.Reads.{lastAt, affinityOf, affinityPermits, fullAffinity, count, busyPcpus}
 use Rattle.system.specs.Writes.{putVcpu, putOccupant}
@@ -111,6 +111,9 @@ reads =
     ∷ row (fullAffinity damaged) (2 ^ 64 - 1)
     ∷ rows (test (affinityPermits host 1 2 0) ∷ test (affinityPermits host 1 2 1) ∷ test (affinityPermits host 1 2 3) ∷ []) (1 ∷ 0 ∷ 1 ∷ [])
     ∷ rows (test (affinityPermits (is 0 0 Runnable (fresh 1 1 3)) 0 0 3) ∷ test (affinityPermits host 0 3 0) ∷ []) (0 ∷ 0 ∷ [])
+    -- a slot by its ids; those past the tables read a slot of them
+    ∷ rows (slotRead 0 0 ∷ slotRead 1 2 ∷ slotRead 15 7 ∷ []) (0 ∷ 10 ∷ 127 ∷ [])
+    ∷ rows (slotRead 16 8 ∷ slotRead 17 10 ∷ slotRead (2 ^ 16 - 1) (2 ^ 32 - 1) ∷ []) (0 ∷ 10 ∷ 127 ∷ [])
     -- where it was last, by its record; as built, on none
     ∷ rows (lastAt host 10 ∷ lastAt host 0 ∷ []) (2 ∷ 64 ∷ [])
     -- a shape at the sizes is built, one above them is told 7

@@ -21,6 +21,13 @@ pcpus s = min (s .«pcpu_count») 64
 abbrev pub slot : ℕ → ℕ → ℕ
 slot d v = d * 8 + v
 
+-- where a record is read by ids that may be out of range: always in the table, and at the slot if they are in range
+abbrev pub slotRead : ℕ → ℕ → ℕ
+slotRead d v = d % 16 * 8 + v % 8
+
+pub slot-read : (d v : ℕ) → d < 16 → v < 8 → slotRead d v ≡ slot d v
+slot-read d v a b = omega arith
+
 -- the slots of a system, by domain, then vCPU; not every slot has a vCPU
 abbrev pub slots : System → ℕ
 slots s = domains s * 8

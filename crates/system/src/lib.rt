@@ -11,7 +11,7 @@ ghost use Rattle.system.specs.Shape.{withinSizes, fresh, builtSystem};
 ghost use Rattle.system.specs.Reads.{vcpuCount, isIdle, vcpuOf, stateOf, runs, isRunning};
 ghost use Rattle.system.specs.Reads.{runtimeOf, since, onCpuSince, occupantOf, affinityOf, affinityPermits};
 ghost use Rattle.system.specs.Reads.{fullAffinity, busyIn, busyPcpus};
-ghost use Rattle.system.specs.Slots.{domains, pcpus};
+ghost use Rattle.system.specs.Slots.{domains, pcpus, slotRead};
 use service::Service;
 
 /// A domain id: an index into the system's domains.
@@ -178,6 +178,13 @@ pub fn least(a: usize, b: usize) -> usize
     ensures { λ r. ⌜ r ≡ min a b ⌝ }
 {
     if a < b { a } else { b }
+}
+
+/// The slot of vCPU dom/vcpu; of any ids an index of the table.
+pub fn slot_read(dom: DomId, vcpu: Vcpu) -> usize
+    ensures { λ r. ⌜ r ≡ slotRead dom vcpu ⌝ }
+{
+    (dom % 16) as usize * 8 + (vcpu % 8) as usize
 }
 
 /// Whether nobody holds a pCPU.

@@ -1,2 +1,2 @@
 mod Puts
-mod Spelling
+mod DigitsInPlace

@@ -1,12 +1,14 @@
 -- Lines as the requirements write them: numbers in decimal; and the numbers that words say. Assumes nothing.
 use Prim.Native.Nat.{ℕ, _-_, _^_}
 use mathlib.Core.Path.{refl}
-use mathlib.Core.List.{List, [], _∷_}
-use Rattle.rows.specs.Rows.{Row, rows, AllDue}
+use mathlib.Core.List.{List, [], _∷_, _++_}
+use lib.ListN.{replicate}
+use Rattle.rows.specs.Rows.{Row, row, rows, AllDue}
 use Rattle.text.specs.Ascii.{ascii}
 use Rattle.text.specs.declared.MaybeNumber.{MaybeNumber}
 use Rattle.text.specs.declared.MaybeNumber.the-variants.{None, Some}
 use Rattle.text.specs.Lines.{digits, decimal, wideDecimal, field, fields, answerLine, numbersLine, pcpuLine, usageLine}
+use Rattle.text.specs.AnswerPlaces.{answerPut, answerEnd}
 use Rattle.text.specs.Numerals.{numeral, said, numberIn}
 
 abbrev pub lines : List Row
@@ -26,6 +28,11 @@ lines =
     ∷ rows (wideDecimal (2 ^ 128 - 1)) (ascii "340282366920938463463374607431768211455")
     -- a record: its number, the answer, the moves
     ∷ rows (answerLine 12 5 130) (ascii "12 5 130\n")
+    -- put where there are 63 bytes for it, and not where there are 62
+    ∷ rows (answerPut (replicate 64 7) 1 1 0 0) (7 ∷ ascii "1 0 0\n" ++ replicate 57 7)
+    ∷ row (answerEnd (replicate 64 7) 1 1 0 0) 7
+    ∷ rows (answerPut (replicate 63 7) 1 1 0 0) (replicate 63 7)
+    ∷ row (answerEnd (replicate 63 7) 1 1 0 0) 1
     -- numbers, and a pCPU that is held, as `trace` writes them, which the requirements do not say
     ∷ rows (numbersLine (3 ∷ 0 ∷ 64 ∷ [])) (ascii " 3 0 64\n")
     ∷ rows (pcpuLine 63 15 7) (ascii " p 63 15 7\n")
@@ -35,7 +42,7 @@ lines =
     ∷ []
 
 pub lines-due : AllDue lines
-unfolding ascii digits decimal wideDecimal field fields answerLine numbersLine pcpuLine usageLine
+unfolding ascii digits decimal wideDecimal field fields answerLine answerPut answerEnd numbersLine pcpuLine usageLine
 lines-due = refl
 
 -- what a word says, and nothing where it says no number

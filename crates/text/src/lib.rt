@@ -5,9 +5,10 @@ ghost use Prim.Native.Nat.{_+_, _/_, _%_, _≤_, _<_};
 ghost use mathlib.Core.List.{[], _∷_};
 ghost use lib.ListN.{length, take};
 ghost use Rattle.service.specs.Service.{value};
-ghost use Rattle.text.specs.Lines.{digits, decimal, wideDecimal, field, fields, answerLine, numbersLine, pcpuLine, usageLine};
+ghost use Rattle.text.specs.Lines.{digits, decimal, wideDecimal, field, fields, numbersLine, pcpuLine, usageLine};
 ghost use Rattle.text.specs.Numerals.{numberIn};
 ghost use Rattle.text.specs.Places.{put, Placed, lineOf, appended, endOf};
+ghost use Rattle.text.specs.AnswerPlaces.{answerPut, answerEnd};
 use service::Service;
 
 /// A line: its text is the first `length` bytes.
@@ -23,24 +24,46 @@ fn put_text(out: &mut [u8], at: usize, text: &[u8])
     bytes::copy(text, &mut out[at..]);
 }
 
-// Puts n at index `at`, in decimal, and answers the index past it.
-fn put_number(out: &mut [u8], at: usize, n: u64) -> usize
-    requires { ⌜ at + 20 ≤ length (now out) ⌝ }
-    ensures { λ r. ⌜ Placed (now (out .entry)) at (decimal n) (now (out .exit)) r ⌝ }
-    ensures { λ r. ⌜ r ≤ at + 20 ⌝ }
-{
-    let mut digits = [0u8; 20];
-    let k = io::decimal(n, &mut digits);
-    put_text(out, at, &digits[..k]);
-    at + k
-}
-
 fn put_byte(out: &mut [u8], at: usize, b: u8) -> usize
     requires { ⌜ at < length (now out) ⌝ }
     ensures { λ r. ⌜ Placed (now (out .entry)) at (b ∷ []) (now (out .exit)) r ⌝ }
 {
     out[at] = b;
     at + 1
+}
+
+// How many decimal digits n has.
+fn width(n: u64) -> usize
+    ensures { λ r. ⌜ r ≡ length (decimal n) ⌝ }
+{
+    let mut left = n;
+    let mut k: usize = 1;
+    while left >= 10 {
+        left = left / 10;
+        k += 1;
+    }
+    k
+}
+
+// Puts n at index `at`, in decimal, and answers the index past it: the last digit first, as division by
+// ten gives them.
+fn put_number(out: &mut [u8], at: usize, n: u64) -> usize
+    requires { ⌜ at + 20 ≤ length (now out) ⌝ }
+    ensures { λ r. ⌜ Placed (now (out .entry)) at (decimal n) (now (out .exit)) r ⌝ }
+    ensures { λ r. ⌜ r ≤ at + 20 ⌝ }
+{
+    if n < 10 {
+        return put_byte(out, at, b'0' + n as u8);
+    }
+    let k = width(n);
+    let mut left = n;
+    let mut i = k;
+    while i > 0 {
+        i -= 1;
+        out[at + i] = b'0' + (left % 10) as u8;
+        left = left / 10;
+    }
+    at + k
 }
 
 fn put_field(out: &mut [u8], at: usize, n: u64) -> usize
@@ -109,16 +132,22 @@ fn put_wide(out: &mut [u8], at: usize, n: Service) -> usize
     put_digits(out, at, 39, n)
 }
 
-/// What a record is told: its number, the answer and the moves.
-pub fn answer_line(number: u64, answer: u64, moves: u64) -> Line
-    ensures { λ r. ⌜ r ≡ lineOf (answerLine number answer moves) ⌝ }
+/// Puts what a record is told at index `at`: its number, the answer and the moves; where there are
+/// not 63 bytes from there on, which is room for any such line, nothing. Answers the index past it.
+pub fn put_answer_line(out: &mut [u8], at: usize, number: u64, answer: u64, moves: u64) -> usize
+    ensures { λ _. ⌜ now (out .exit) ≡ answerPut (now (out .entry)) at number answer moves ⌝ }
+    ensures { λ r. ⌜ r ≡ answerEnd (now (out .entry)) at number answer moves ⌝ }
 {
-    let mut bytes = [0u8; 192];
-    let a = put_number(&mut bytes, 0, number);
-    let b = put_field(&mut bytes, a, answer);
-    let c = put_field(&mut bytes, b, moves);
-    let length = put_byte(&mut bytes, c, b'\n');
-    Line { bytes, length }
+    if out.len() < 63 {
+        return at;
+    }
+    if at > out.len() - 63 {
+        return at;
+    }
+    let a = put_number(out, at, number);
+    let b = put_field(out, a, answer);
+    let c = put_field(out, b, moves);
+    put_byte(out, c, b'\n')
 }
 
 /// The first nine of some numbers, a space before each.

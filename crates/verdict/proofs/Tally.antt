@@ -15,13 +15,12 @@ use Rattle.system.specs.Shape.{withinSizes}
 use Rattle.system.specs.Reads.{vcpuAt, occupantAt, isIdle, count, busyPcpus}
 use Rattle.system.specs.Slots.{domains, vcpus, pcpus, slot, Present}
 use Rattle.system.specs.States.{onto}
-use Rattle.verdict.specs.declared.Violation.{Violation}
 use Rattle.verdict.specs.declared.Violation.the-variants.{None}
 use Rattle.verdict.specs.Violations.{vcpuViolation, slotViolation, holderViolation, pcpuViolation}
 use Rattle.verdict.specs.Violations.{earliest, firstViolation, isNone, invariantsHold}
-use Rattle.verdict.specs.Internal.{runsWithin, runningAt}
+use Rattle.verdict.specs.Elements.{runsWithin, runningAt}
 use Rattle.verdict.specs.Sound.{OnPcpu, Sound, earliest-none, clean-runs, occupies-none, is-none, sound-iff}
-use Rattle.verdict.proofs.VerdictScan.{or-keeps, stop, counts}
+use Rattle.verdict.proofs.VerdictScan.{counts}
 use Rattle.verdict.proofs.Pigeonhole.{Into, into-le, into-lt}
 
 -- the slot that an occupant names, of meaning only where there is one
@@ -140,15 +139,6 @@ module _ (s : System) (fit : withinSizes (s .«domain_count») (s .«vcpus_per_d
       go true Runnable q e = refl
       go true (Running p) q e = absurd (false≢true (sym e ∙ q))
       go true Blocked q e = refl
-
-  -- a vCPU in violation, and none before it
-  pub broken : (i : ℕ) {v : Violation} → earliest (slotViolation s) i ≡ None → i < domains s * 8 → v ≡ slotViolation s i
-      → isNone v ≡ false → invariantsHold s ≡ false
-  unfolding firstViolation invariantsHold
-  broken i e l q h =
-      let first = stop (slotViolation s) i (domains s * 8) e q h l in
-      let some = ap isNone (sym first) ∙ h in
-      rw (fit, or-keeps _ (earliest (pcpuViolation s) (pcpus s)) some) some
 
 -- the verdict of the tally
 pub tally : (s : System) → withinSizes (s .«domain_count») (s .«vcpus_per_domain») (s .«pcpu_count») ≡ true

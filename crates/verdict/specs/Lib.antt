@@ -1,4 +1,4 @@
 pub mod Violations
-pub mod Internal
+pub mod Elements
 pub mod Sound
 pub mod Rows

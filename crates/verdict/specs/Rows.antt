@@ -1,8 +1,8 @@
 -- The verdict on small damaged systems, worked out by hand: each verdict, and each place in the order of the scan. Assumes nothing.
 use Prim.Native.Nat.{ℕ}
 use mathlib.Core.Path.{refl}
-use mathlib.Core.List.{List, [], _∷_}
-use Rattle.rows.specs.Rows.{Row, rows, AllDue}
+use mathlib.Core.List.{List, [], _∷_, _++_}
+use Rattle.rows.specs.Rows.{Row, rows, test, AllDue}
 use Rattle.system.specs.declared.RunState.{RunState}
 use Rattle.system.specs.declared.RunState.the-variants.{Runnable, Running}
 use Rattle.system.specs.declared.Occupant.the-variants.{Vcpu}
@@ -15,6 +15,7 @@ use Rattle.verdict.specs.declared.Violation.{Violation}
 use Rattle.verdict.specs.declared.Violation.the-variants.{None, Oversize, OccupantGhost, OccupantNotRunning}
 use Rattle.verdict.specs.declared.Violation.the-variants.{RunningGhostPcpu, OccupancyBroken, RunningOffAffinity}
 use Rattle.verdict.specs.Violations.{slotViolation, pcpuViolation, earliest, firstViolation}
+use Rattle.verdict.specs.Elements.{pcpuIndex, vcpuViolationAt, runsWithin}
 
 -- 0 none; 1 oversize; of a vCPU 2 ghost pCPU, 3 broken occupancy, 4 off affinity; of a pCPU 5 ghost occupant, 6 occupant not running
 abbrev numbered : Violation → List ℕ
@@ -95,6 +96,21 @@ verdicts =
     ∷ rows (found (names 2 0 0 host)) (0 ∷ [])
     ∷ []
 
-pub verdicts-due : AllDue verdicts
+-- what is said of one vCPU by its record and its pCPU's
+abbrev pub elements : List Row
+elements =
+    -- the index of its pCPU; past the table one of it
+    rows (pcpuIndex (Running 5) ∷ pcpuIndex (Running 69) ∷ pcpuIndex Runnable ∷ []) (5 ∷ 5 ∷ 0 ∷ [])
+    -- whether vCPU 1 of 2, or of 1, runs
+    ∷ rows (test (runsWithin 2 1 (Running 0)) ∷ test (runsWithin 1 1 (Running 0)) ∷ test (runsWithin 2 1 Runnable) ∷ []) (1 ∷ 0 ∷ 0 ∷ [])
+    -- 1/0 on pCPU 1 of 2, of 1, under another, and outside its mask
+    ∷ rows (numbered (vcpuViolationAt 2 (Vcpu 1 0) 1 0 2 (Running 1))) (0 ∷ [])
+    ∷ rows (numbered (vcpuViolationAt 1 (Vcpu 1 0) 1 0 2 (Running 1))) (2 ∷ 1 ∷ 0 ∷ [])
+    ∷ rows (numbered (vcpuViolationAt 2 (Vcpu 0 1) 1 0 2 (Running 1))) (3 ∷ 1 ∷ 0 ∷ [])
+    ∷ rows (numbered (vcpuViolationAt 2 (Vcpu 1 0) 1 0 1 (Running 1))) (4 ∷ 1 ∷ 0 ∷ [])
+    ∷ rows (numbered (vcpuViolationAt 2 (Vcpu 0 1) 1 0 1 Runnable)) (0 ∷ [])
+    ∷ []
+
+pub verdicts-due : AllDue (verdicts ++ elements)
 unfolding fresh vcpuAt occupantAt putVcpu putOccupant slotViolation pcpuViolation earliest firstViolation
 verdicts-due = refl

@@ -8,12 +8,13 @@ ghost use Rattle.system.specs.Slots.{domains, pcpus};
 ghost use Rattle.system.specs.States.{runsOn};
 ghost use Rattle.verdict.specs.Violations.{names, isNone, earliest, slotViolation, pcpuViolation};
 ghost use Rattle.verdict.specs.Violations.{orElse, firstViolation, invariantsHold};
-ghost use Rattle.verdict.specs.Internal.{pcpuIndex, vcpuViolationAt, holderSlot, holderViolationAt, runsWithin};
+ghost use Rattle.verdict.specs.Elements.{pcpuIndex, vcpuViolationAt, holderSlot, holderViolationAt, runsWithin};
 use system::Occupant;
 use system::PhysicalCpu;
 use system::RunState;
 use system::System;
 use system::VirtualCpu;
+use system::least;
 
 /// What is wrong with a system, and where.
 pub enum Violation {
@@ -53,8 +54,8 @@ fn or_else(a: Violation, b: Violation) -> Violation
     if is_none(a) { b } else { a }
 }
 
-// The pCPU that a vCPU runs on, as an index that is always in the table.
-fn pcpu_index(v: VirtualCpu) -> usize
+/// The pCPU that a vCPU runs on, as an index that is always in the table.
+pub fn pcpu_index(v: VirtualCpu) -> usize
     ensures { λ r. ⌜ r ≡ pcpuIndex (v .state) ⌝ }
 {
     let state = v.state;
@@ -138,7 +139,7 @@ fn holder_slot(c: PhysicalCpu) -> usize
     let o = c.occupant;
     match o {
         Occupant::Idle => 0,
-        Occupant::Vcpu { dom, vcpu } => (dom % 16) as usize * 8 + (vcpu % 8) as usize,
+        Occupant::Vcpu { dom, vcpu } => system::slot_read(dom, vcpu),
     }
 }
 
@@ -217,8 +218,8 @@ pub fn first_violation(s: System) -> Violation
     or_else(of_vcpus, of_pcpus)
 }
 
-// Whether a vCPU is Running and one of its domain's vCPUs.
-fn runs_within(v: VirtualCpu, vcpu: usize, vcpus_per_domain: usize) -> bool
+/// Whether a vCPU is Running and one of its domain's vCPUs.
+pub fn runs_within(v: VirtualCpu, vcpu: usize, vcpus_per_domain: usize) -> bool
     ensures { λ r. ⌜ r ≡ runsWithin «vcpus_per_domain» vcpu (v .state) ⌝ }
 {
     let state = v.state;
@@ -230,18 +231,22 @@ fn runs_within(v: VirtualCpu, vcpu: usize, vcpus_per_domain: usize) -> bool
     }
 }
 
+/// Whether vCPU dom/vcpu may stand where it does, where `c` stands at its pCPU's index.
+pub fn is_backed(v: VirtualCpu, c: PhysicalCpu, pcpu_count: usize, dom: usize, vcpu: usize) -> bool
+    ensures { λ r. ⌜ r ≡ isNone (vcpuViolationAt «pcpu_count» (c .occupant) dom vcpu (v .affinity) (v .state)) ⌝ }
+{
+    is_none(vcpu_violation(v, c, pcpu_count, dom, vcpu))
+}
+
 /// Whether a system has no violation.
 // Where each Running vCPU's pCPU names it back and as many pCPUs are busy as vCPUs run, each holder runs.
 pub fn invariants_hold(s: System) -> bool
     ensures { λ r. ⌜ r ≡ invariantsHold s ⌝ }
 {
-    let d = s.domain_count;
     let k = s.vcpus_per_domain;
     let m = s.pcpu_count;
-    if !system::within_sizes(d, k, m) {
-        return false;
-    }
-    let n = d * 8;
+    let mut sound = system::within_sizes(s.domain_count, k, m);
+    let n = least(s.domain_count, system::MAX_DOMAINS) * 8;
     let mut running: usize = 0;
     let mut i: usize = 0;
     while i < n {
@@ -249,13 +254,16 @@ pub fn invariants_hold(s: System) -> bool
         if runs_within(v, i % 8, k) {
             let q = pcpu_index(v);
             let c = s.pcpus[q];
-            if !is_none(vcpu_violation(v, c, m, i / 8, i % 8)) {
-                return false;
+            if !is_backed(v, c, m, i / 8, i % 8) {
+                sound = false;
             }
             running += 1;
         }
         i += 1;
     }
     let pcpus = s.pcpus;
-    running == system::busy_in(pcpus, m)
+    if running != system::busy_in(pcpus, m) {
+        sound = false;
+    }
+    sound
 }

@@ -1,11 +1,7 @@
 -- `advance::record_after` meets its contract. Assumes nothing.
-use Prim.Native.Nat.{_^_, _<_}
 use borrow.Author.Needs.{needs}
 use Rattle.advance.proofs.record_after.Statement.{statement}
 use Rattle.advance.proofs.record_after.Tie as tie
-
-word : (c : tie.Start) → c .args .v .runtime < 2 ^ 64
-word c = search needs
 
 pub record-after-spec : {M : Type 1} → statement M
 record-after-spec =
@@ -16,6 +12,6 @@ record-after-spec =
     (λ c. search needs)
     (λ c κs. search needs)
     (λ c. search needs)
-    (λ c. (rw (c .before .before .c .given .1) (c .dispatched .ensures), word (c .before .before .before .before)))
-    (λ c. (rw (c .before .enum-told .given .1) (c .left .ensures), word (c .before .before .before)))
-    (λ c. (rw (c .enum-told2 .given .1), word (c .before .before))))
+    (λ c. rw (c .before .before .c .given .1) (c .dispatched .ensures))
+    (λ c. rw (c .before .enum-told .given .1) (c .left .ensures))
+    (λ c. rw (c .enum-told2 .given .1)))

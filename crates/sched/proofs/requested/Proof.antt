@@ -1,73 +1,114 @@
--- `sched::requested` meets its contract. Assumes nothing.
+-- `sched::requested` meets its contract: what its loop tests is the definition's soundness, and what it stores the request's.
+-- Assumes nothing.
+use Prim.Native.Nat.{_-_, _≤_, zero-le}
 use mathlib.Core.Path.{_≡_, sym, _∙_}
+use mathlib.Core.Logic.{⊎-elim}
 use native.Mathlib.Omega.{arith}
 use borrow.Author.Needs.{needs}
-use Rattle.system.specs.Reads.{vcpuAt}
-use Rattle.system.specs.Slots.{slot-below}
-use Rattle.sched.specs.declared.Slot.{Slot}
-use Rattle.sched.specs.Steps.{changeOf, requested}
-use Rattle.sched.proofs.Lookup.{Tells, Found, looked, found-in-table}
-use Rattle.sched.proofs.Stores.{made-by-stores}
+use borrow.Author.Tests.{not-true, not-false}
+use Rattle.system.specs.Reads.{vcpuAt, occupantAt}
+use Rattle.verdict.specs.Violations.{invariantsHold}
+use Rattle.verdict.proofs.Laws.{index-below}
+use Rattle.verdict.proofs.Laws.{Testing, testing-starts, testing-rests, testing-backed, testing-broken, testing-even, testing-uneven}
+use Rattle.sched.proofs.About.{pcpu-read-below}
+use Rattle.sched.proofs.Elements.{requested-by-stores}
 use Rattle.sched.proofs.requested.Statement.{statement}
 use Rattle.sched.proofs.requested.Tie as tie
 
--- what is told by the slot that was found
-told : (c : tie.After-slot-of) {x : Slot} → c .slot-of .result ≡ x →
-    let a = c .before .before .args in
-    Tells (a .t2) (a .dom) (a .vcpu) (a .request) (requested (a .t2) (a .dom) (a .vcpu) (a .request)) x
-told c e =
-    let b = c .before in
-    let a = b .before .args in
-    looked (a .t2) (a .dom) (a .vcpu) (a .request) (b .before .pre) (b .reaches .ensures) (sym (c .slot-of .ensures) ∙ e)
+abbrev Inv-loop : tie.InvT-loop
+Inv-loop dom vcpu request s d k m sound₀ n running₀ i₀ sound running i = Testing s sound running i × (i ≤ n)
 
--- the vCPU is there
-at : (c : tie.After-known-told2) →
-    let a = c .before .before .before .before .before .args in
-    Found (a .t2) (a .dom) (a .vcpu) (a .request) (requested (a .t2) (a .dom) (a .vcpu) (a .request)) (c .before .slot2 .given .0 .0)
-at c = told (c .before .before .before) (c .before .slot2 .given .1)
+abbrev μ-loop : tie.MeasureT-loop
+μ-loop dom vcpu request s d k m sound₀ n running₀ i₀ sound running i = n - i
 
-slot-in : tie.Need-element-copy-out-v
-slot-in c = slot-below (at c .present)
-
--- the change is the definition's, and its pCPU is in the table
-change :
-    (c : tie.After-changed) →
-    let k = c .before .before .before in
-    let a = k .before .before .before .before .before .args in
-    c .changed .result ≡ changeOf (a .t2) (k .before .slot2 .given .0 .0) (a .request)
+-- the index of the vCPU's pCPU is in the table
+index-in : tie.Need-element-copy-out-c Inv-loop μ-loop
 unfolding vcpuAt
-change c = c .changed .ensures ∙ rw (c .before .full-mask .ensures)
+index-in c =
+    let l = c .before .before .before .before .before in
+    rw (c .pcpu-index .ensures) (index-below ((vcpuAt (l .before .before .before .args .t1) (l .loop .i)) .state))
 
-pcpu-in : tie.Need-element-copy-out-c
-pcpu-in c = rw (c .pcpu-of .ensures, change (c .before)) (found-in-table _ _ _ _ (at (c .before .before .before .before)))
+loop-again : tie.Need-loop-again Inv-loop μ-loop
+unfolding vcpuAt occupantAt
+loop-again c =
+    let l = c .before .before .before .before in
+    let s = l .before .before .before .args .t1 in
+    let i = l .loop .i in
+    let T = l .loop .inv .0 in
+    let runs = c .before .runs-within .ensures in
+    ⊎-elim
+    (λ w.
+    let at = w .1 .ensures in
+    let told = w .3 .ensures in
+    ⊎-elim
+    (λ u. (rw (w .5, u .1, w .6) (testing-broken s i runs (w .0 .taken) at told (not-true _ (u .0 .taken)) T), omega arith))
+    (λ u. (rw (w .5, u .1, w .6) (testing-backed s i runs (w .0 .taken) at told (not-false _ (u .0 .left)) T), omega arith))
+    (w .4 .came))
+    (λ w. (rw (w .1, w .2) (testing-rests s i runs (w .0 .left) T), omega arith))
+    (c .if1 .came)
 
-there : tie.Need-returns-2
+-- the index of the request's pCPU is in the table
+pcpu-in : tie.Need-element-copy-out-c-2 Inv-loop μ-loop
+unfolding vcpuAt
+pcpu-in c =
+    let j = c .before .before in
+    let a = j .before .before .before .before .before .before .before .before .args in
+    rw (c .pcpu-read .ensures) (pcpu-read-below (a .request) (vcpuAt (a .t1) (j .slot-read .result)))
+
+-- the verdict, by whether as many pCPUs are held as vCPUs run
+verdict : (c : tie.Joined3 Inv-loop μ-loop) →
+    c .if3 .sound ≡ invariantsHold (c .before .before .before .before .before .before .before .args .t1)
+unfolding occupantAt
+verdict c =
+    let b = c .before in
+    let l = b .before .before .before in
+    let s = l .before .before .before .args .t1 in
+    let T = l .loop .inv .0 in
+    ⊎-elim
+    (λ u. u .1 ∙ testing-uneven s T (omega arith) (λ e. u .0 .taken (e ∙ sym (b .busy-in .ensures))))
+    (λ u. u .1 ∙ testing-even s T (omega arith) (u .0 .left ∙ b .busy-in .ensures))
+    (c .if3 .came)
+
+there : tie.Need-returns Inv-loop μ-loop
 there c =
-    let r = c .before .before in
-    let p = r .before .before in
-    let k = at (p .before .before .before .before) in
-    made-by-stores _ _ (change (p .before)) (sym (k .who)) (p .pcpu-of .ensures) (r .stored .ensures) ∙ sym (k .told)
+    let e = c .before .before in
+    let p = e .before .before in
+    let j = p .before .before in
+    let a = j .before .before .before .before .before .before .before .before .args in
+    requested-by-stores (a .t1) (a .dom) (a .vcpu) (a .request) (verdict (j .before)) (j .slot-read .ensures) (p .pcpu-read .ensures)
+    (e .effect-of .ensures)
 
 pub requested-spec : {M : Type 1} → statement M
 requested-spec =
     tie.close
     (tie.spec
+    Inv-loop
+    μ-loop
     (λ c κs. search needs)
     (λ c κs. search needs)
     (λ c. search needs)
-    (λ c κs. search needs)
-    (λ c. c .refused .ensures ∙ sym (told (c .before .before .before .before) (c .before .before .slot .given .1)))
+    (λ c. (testing-starts (c .before .before .args .t1) _ (c .before .within-sizes .ensures), zero-le))
     (λ c. search needs)
-    (λ c. let h = slot-in c in omega arith)
-    slot-in
+    (λ c. search needs)
     (λ c κs. search needs)
     (λ c κs. search needs)
+    (λ c. omega (arith, index-in c))
+    index-in
     (λ c κs. search needs)
-    (λ c. let h = pcpu-in c in omega arith)
+    (λ c. let l = c .before .before .before .before .before .before .before .before in omega (arith, l .loop .inv .0 .few))
+    (λ c. omega arith)
+    (λ c. omega arith)
+    loop-again
+    (λ c κs. search needs)
+    (λ c κs. search needs)
+    (λ c. search needs)
+    (λ c. search needs)
+    (λ c κs. search needs)
+    (λ c. omega (arith, pcpu-in c))
     pcpu-in
     (λ c κs. search needs)
-    (λ c. let h = slot-in (c .before .before .before .before .before .before .before .before) in omega arith)
-    (λ c. slot-in (c .before .before .before .before .before .before .before .before))
-    (λ c. let h = pcpu-in (c .before .before .before .before) in omega arith)
+    (λ c. search needs)
+    (λ c. search needs)
+    (λ c. omega (arith, pcpu-in (c .before .before .before .before)))
     (λ c. pcpu-in (c .before .before .before .before))
     there)

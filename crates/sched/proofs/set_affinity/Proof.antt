@@ -9,9 +9,9 @@ use Rattle.sched.proofs.set_affinity.Tie as tie
 
 returns : tie.Need-returns
 returns c =
-    let a = c .before .before .before .args in
+    let a = c .before .before .args in
     c .requested .ensures
-    ∙ ap (λ (m : ℕ). requested (a .s) (a .dom) (a .vcpu) (Request.SetAffinity m)) (c .before .before .clip .ensures)
+    ∙ ap (λ (m : ℕ). requested (a .s) (a .dom) (a .vcpu) (Request.SetAffinity m)) (c .before .clip .ensures)
 
 pub set-affinity-spec : {M : Type 1} → statement M
-set-affinity-spec = tie.close (tie.spec (λ c κs. search needs) (λ c κs. search needs) (λ c κs. search needs) returns)
+set-affinity-spec = tie.close (tie.spec (λ c κs. search needs) (λ c κs. search needs) returns)

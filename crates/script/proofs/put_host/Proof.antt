@@ -11,7 +11,7 @@ unfolding hostText
 returns c =
     let pcpus = c .before .before .put-pcpus in
     let vcpus = c .before .before .before .before .before .before .put-vcpus in
-    let a = c .before .before .before .before .before .before .before .before .before .before .before in
+    let a = c .before .before .before .before .before .before .before .before .before in
     (placed-then (omega (arith, a .pre)) (vcpus .ensures .0) (pcpus .ensures .0), omega (arith, vcpus .ensures .1, pcpus .ensures .1))
 
 pub put-host-spec : {M : Type 1} → statement M

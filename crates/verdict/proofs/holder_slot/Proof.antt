@@ -1,5 +1,7 @@
 -- `verdict::holder_slot` meets its contract. Assumes nothing.
+use mathlib.Core.Path.{sym, _∙_, ap}
 use borrow.Author.Needs.{needs}
+use Rattle.verdict.specs.Elements.{holderSlot}
 use Rattle.verdict.proofs.holder_slot.Statement.{statement}
 use Rattle.verdict.proofs.holder_slot.Tie as tie
 
@@ -9,9 +11,6 @@ holder-slot-spec =
     (tie.spec
     (λ c. search needs)
     (λ c. search needs)
+    (λ c κs. search needs)
     (λ c. search needs)
-    (λ c. search needs)
-    (λ c. search needs)
-    (λ c. search needs)
-    (λ c. search needs)
-    (λ c. rw (c .before .o .given .1)))
+    (λ c. c .slot-read .ensures ∙ sym (ap holderSlot (c .before .before .o .given .1))))

@@ -1,4 +1,4 @@
--- What accounting's functions keep: the floor so far, and one account renewed.
+-- Accounting by the records of one vCPU: who leads once it was compared, and its account renewed.
 use Prim.Native.Nat.{ℕ, max}
 use mathlib.Core.Bool.{Bool, true, false, cond, not, _&&_}
 use mathlib.Core.Path.{_≡_}

@@ -1,5 +1,5 @@
--- What the crate's own loops say of one vCPU and one pCPU, each read with the record that the other table has for it.
-use Prim.Native.Nat.{ℕ, _+_, _*_, _%_}
+-- What is said of one vCPU and of one pCPU, each read with the record that the other table has for it.
+use Prim.Native.Nat.{ℕ, _%_}
 use mathlib.Core.Bool.{Bool, false}
 use lib.Dec.{ltb}
 use Rattle.system.specs.declared.RunState.{RunState}
@@ -8,7 +8,7 @@ use Rattle.system.specs.declared.Occupant.the-variants.{Idle, Vcpu}
 use Rattle.system.specs.declared.System.{System}
 use Rattle.system.specs.States.{whileRunning}
 use Rattle.system.specs.Reads.{vcpuAt}
-use Rattle.system.specs.Slots.{vcpus}
+use Rattle.system.specs.Slots.{vcpus, slotRead}
 use Rattle.verdict.specs.declared.Violation.{Violation}
 use Rattle.verdict.specs.declared.Violation.the-variants.{None}
 use Rattle.verdict.specs.Violations.{runningViolation, occupantViolation}
@@ -23,7 +23,7 @@ vcpuViolationAt n o d v mask st = whileRunning st (runningViolation n o d v mask
 -- where to look up the holder of a pCPU: always in the table, and its own slot if the holder exists
 abbrev pub holderSlot : Occupant → ℕ
 holderSlot Idle = 0
-holderSlot (Vcpu d v) = d % 16 * 8 + v % 8
+holderSlot (Vcpu d v) = slotRead d v
 
 abbrev pub holderViolationAt : ℕ → ℕ → RunState → ℕ → Occupant → Violation
 holderViolationAt n k st p Idle = None
