@@ -1,7 +1,7 @@
 -- What `next` recommends is done: the mechanism's own calls accept it, and do what an advance does of it. Assumes nothing.
 use Prim.Native.Nat.{ℕ, _/_, _%_}
 use mathlib.Core.Bool.{Bool, true, false}
-use mathlib.Core.Path.{_≡_, refl, sym, _∙_, ap}
+use mathlib.Core.Path.{_≡_, refl, sym, _∙_, ap, ap₂}
 use native.Mathlib.Omega.{arith}
 use borrow.Author.Tests.{lt-ltb}
 use Rattle.scan.specs.Booleans.{zero-one}
@@ -58,55 +58,66 @@ module _ (s : System) (π : Scheduler) (now : ℕ) where
       go true h f = (sound-iff s .0 h, f)
       go false h f = absurd (n (sym f))
 
-  -- who is told to run a vCPU, and runs it, is told 0
-  pub next-run-accepted : (d v p : ℕ) → (next s π now) .decision ≡ decision.Run d v p → (run s d v p now) .number ≡ told Done
-  next-run-accepted d v p e =
+  -- the choice that a decision stands for, by the ids that it names
+  pub record Chosen (d v : ℕ) (c : Choice) : Type 0 where
+    pub sound : Sound s
+    pub domain : slot d v / 8 ≡ d
+    pub vcpu : slot d v % 8 ≡ v
+    pub is : choice s (ruleOf π) now ≡ c
+
+  pub chosen-run : (d v p : ℕ) → (next s π now) .decision ≡ decision.Run d v p → Chosen d v (Run (slot d v) p)
+  chosen-run d v p e =
       let x = decided (decision.Run d v p) (λ f. zero-one cc) e in
       go (x .0) (choice s (ruleOf π) now) refl (x .1)
     where
-      go : Sound s → (c : Choice) → choice s (ruleOf π) now ≡ c → named c ≡ decision.Run d v p → (run s d v p now) .number ≡ told Done
+      go : Sound s → (c : Choice) → choice s (ruleOf π) now ≡ c → named c ≡ decision.Run d v p → Chosen d v (Run (slot d v) p)
       go S (Run i q) f h =
           let a : i / 8 ≡ d = cc in
           let b : i % 8 ≡ v = cc in
           let k : q ≡ p = cc in
-          let c = choice-run s (ruleOf π) now i q f in
-          rw (← a, ← b, ← k) (ap (λ (r : SystemOutcome). r .number) (sym (enacted-run s S now i q c) ∙ run-enacted s now i q c))
+          let j : i ≡ slot d v = omega arith in
+          record { sound = S; domain = rw (← j) a; vcpu = rw (← j) b; is = rw (← j, ← k) f }
       go S (Preempt i q) f h = absurd (zero-one cc)
       go S Rest f h = absurd (zero-one cc)
+
+  pub chosen-preempt : (d v p : ℕ) → (next s π now) .decision ≡ decision.Preempt d v p → Chosen d v (Preempt (slot d v) p)
+  chosen-preempt d v p e =
+      let x = decided (decision.Preempt d v p) (λ f. zero-one cc) e in
+      go (x .0) (choice s (ruleOf π) now) refl (x .1)
+    where
+      go : Sound s → (c : Choice) → choice s (ruleOf π) now ≡ c → named c ≡ decision.Preempt d v p → Chosen d v (Preempt (slot d v) p)
+      go S (Preempt i q) f h =
+          let a : i / 8 ≡ d = cc in
+          let b : i % 8 ≡ v = cc in
+          let k : q ≡ p = cc in
+          let j : i ≡ slot d v = omega arith in
+          record { sound = S; domain = rw (← j) a; vcpu = rw (← j) b; is = rw (← j, ← k) f }
+      go S (Run i q) f h = absurd (zero-one cc)
+      go S Rest f h = absurd (zero-one cc)
+
+  -- who is told to run a vCPU, and runs it, is told 0
+  pub next-run-accepted : (d v p : ℕ) → (next s π now) .decision ≡ decision.Run d v p → (run s d v p now) .number ≡ told Done
+  next-run-accepted d v p e =
+      let x = chosen-run d v p e in
+      let c = choice-run s (ruleOf π) now (slot d v) p (x .is) in
+      ap₂ (λ (d v : ℕ). (run s d v p now) .number) (sym (x .domain)) (sym (x .vcpu))
+      ∙ ap (λ (r : SystemOutcome). r .number) (sym (enacted-run s (x .sound) now (slot d v) p c) ∙ run-enacted s now (slot d v) p c)
 
   -- and so is who is told to preempt one, and does
   pub next-preempt-accepted : (d v p : ℕ) → (next s π now) .decision ≡ decision.Preempt d v p → (preempt s d v now) .number ≡ told Done
   next-preempt-accepted d v p e =
-      let x = decided (decision.Preempt d v p) (λ f. zero-one cc) e in
-      go (x .0) (choice s (ruleOf π) now) refl (x .1)
-    where
-      go : Sound s → (c : Choice) → choice s (ruleOf π) now ≡ c → named c ≡ decision.Preempt d v p → (preempt s d v now) .number ≡ told Done
-      go S (Preempt i q) f h =
-          let a : i / 8 ≡ d = cc in
-          let b : i % 8 ≡ v = cc in
-          let c = choice-preempt s (ruleOf π) now i q f in
-          rw (← a, ← b) (ap (λ (r : SystemOutcome). r .number) (sym (enacted-preempt s S now i q (c .present)) ∙ preempt-enacted s now i q (c .on)))
-      go S (Run i q) f h = absurd (zero-one cc)
-      go S Rest f h = absurd (zero-one cc)
+      let x = chosen-preempt d v p e in
+      let c = choice-preempt s (ruleOf π) now (slot d v) p (x .is) in
+      ap₂ (λ (d v : ℕ). (preempt s d v now) .number) (sym (x .domain)) (sym (x .vcpu))
+      ∙ ap (λ (r : SystemOutcome). r .number)
+      (sym (enacted-preempt s (x .sound) now (slot d v) p (c .present)) ∙ preempt-enacted s now (slot d v) p (c .on))
 
   -- where a Run that is recommended goes
   pub next-placed : (d v p : ℕ) → (next s π now) .decision ≡ decision.Run d v p → Placed s (slot d v) p
   next-placed d v p e =
-      let x = decided (decision.Run d v p) (λ f. zero-one cc) e in
-      go (choice s (ruleOf π) now) refl (x .1)
-    where
-      go : (c : Choice) → choice s (ruleOf π) now ≡ c → named c ≡ decision.Run d v p → Placed s (slot d v) p
-      go (Run i r) f h =
-          let a : i / 8 ≡ d = cc in
-          let b : i % 8 ≡ v = cc in
-          let k : r ≡ p = cc in
-          let j : i ≡ slot d v = omega arith in
-          let c = choice-run s (ruleOf π) now i r f in
-          rw (← j, ← k)
-          (record {
-            can = c;
-            back = choice-back s (ruleOf π) now i r f;
-            lowest = λ n q. choice-lowest s (ruleOf π) now i r q f n;
-          })
-      go (Preempt i r) f h = absurd (zero-one cc)
-      go Rest f h = absurd (zero-one cc)
+      let f = chosen-run d v p e .is in
+      record {
+        can = choice-run s (ruleOf π) now (slot d v) p f;
+        back = choice-back s (ruleOf π) now (slot d v) p f;
+        lowest = λ n q. choice-lowest s (ruleOf π) now (slot d v) p q f n;
+      }

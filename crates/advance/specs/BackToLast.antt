@@ -1,23 +1,21 @@
--- Where `next` dispatches a vCPU, and `next` beside the Rust's: of every system, sound or not, both are told the same and recommend
--- the same move of the same vCPU, but that the pCPU of a Run may be another. Assumes nothing.
+-- Where `next` dispatches a vCPU, and `next` beside the Rust's, which keeps no pCPU: of every system, sound or not, and
+-- of that system with every kept pCPU forgotten it is told the same and recommends the same move of the same vCPU, but
+-- that the pCPU of a Run may be another. Proved as `next-placed` and `next-forgets`.
 use Prim.Native.Nat.{ℕ, _≤_}
-use mathlib.Core.Bool.{Bool, true, false}
-use mathlib.Core.Path.{_≡_, refl, _∙_, ap}
+use mathlib.Core.Path.{_≡_}
+use mathlib.Core.List.{map}
+use Rattle.system.specs.declared.VirtualCpu.{VirtualCpu}
 use Rattle.system.specs.declared.System.{System}
+use Rattle.system.specs.Records.{noPcpu}
 use Rattle.system.specs.Reads.{lastAt}
-use Rattle.verdict.specs.Violations.{invariantsHold}
+use Rattle.system.specs.Slots.{slot}
+use Rattle.verdict.specs.Violations.{firstViolation}
 use Rattle.sched.specs.CanRun.{CanRun}
-use Rattle.moves.specs.declared.Choice.{Choice}
-use Rattle.moves.specs.declared.Choice.the-variants.{Run, Preempt, Rest}
-use Rattle.moves.specs.Decide.{Standings}
-use Rattle.moves.specs.BackToLast.{placedBack}
 use Rattle.policy.specs.declared.Scheduler.{Scheduler}
-use Rattle.rules.specs.Choices.{standings, choice, coldChoice}
-use Rattle.rules.specs.ChoiceLaws.{choice-cold}
+use Rattle.policy.specs.Standing.{serviceAt}
 use Rattle.advance.specs.declared.Decision.{Decision}
 use Rattle.advance.specs.declared.Decision.the-variants as decision
-use Rattle.advance.specs.Advance.{named, NextOutcome, recommended, next}
-use Rattle.advance.specs.ServiceRule.{ruleOf}
+use Rattle.advance.specs.Advance.{NextOutcome, next}
 
 -- the vCPU of slot i goes onto pCPU p: the one that it was last on if it may be dispatched there, else the lowest-numbered that it
 -- may be dispatched onto
@@ -26,9 +24,21 @@ pub record Placed (s : System) (i p : ℕ) : Type 0 where
   pub back : CanRun s i (lastAt s i) → p ≡ lastAt s i
   pub lowest : (CanRun s i (lastAt s i) → ⊥) → (q : ℕ) → CanRun s i q → p ≤ q
 
--- what the Rust recommends: the move by the rule without the pCPU that a vCPU was last on
-unfoldable pub coldNext : System → Scheduler → ℕ → NextOutcome
-coldNext s π now = recommended (invariantsHold s) (coldChoice s (ruleOf π) now)
+-- a vCPU as if it had been dispatched onto none
+abbrev pub withoutLast : VirtualCpu → VirtualCpu
+withoutLast v =
+    record { state = v .state; runtime = v .runtime; «dispatched_at» = v .«dispatched_at»; affinity = v .affinity; last = noPcpu }
+
+-- a system with every kept pCPU forgotten: all that the Rust has of it
+unfoldable pub withoutLasts : System → System
+withoutLasts s =
+    record {
+      «domain_count» = s .«domain_count»;
+      «vcpus_per_domain» = s .«vcpus_per_domain»;
+      «pcpu_count» = s .«pcpu_count»;
+      vcpus = map withoutLast (s .vcpus);
+      pcpus = s .pcpus;
+    }
 
 -- a decision, whatever pCPU its vCPU is dispatched onto
 abbrev pub anywhere : Decision → Decision
@@ -41,21 +51,13 @@ pub record AlikeAnywhere (x y : NextOutcome) : Type 0 where
   pub number : x .number ≡ y .number
   pub decision : anywhere (x .decision) ≡ anywhere (y .decision)
 
-pub next-cold : (s : System) (π : Scheduler) (now : ℕ) → AlikeAnywhere (next s π now) (coldNext s π now)
-unfolding next coldNext
-next-cold s π now = go (invariantsHold s)
-  where
-    same : (t : Standings) (c : Choice) → anywhere (named (placedBack t c)) ≡ anywhere (named c)
-    same t (Run i p) = refl
-    same t (Preempt i p) = refl
-    same t Rest = refl
-
-    go : (b : Bool) → AlikeAnywhere (recommended b (choice s (ruleOf π) now)) (recommended b (coldChoice s (ruleOf π) now))
-    go true =
-        record {
-          number = refl;
-          decision =
-              ap (λ (c : Choice). anywhere (named c)) (choice-cold s (ruleOf π) now)
-              ∙ same (standings s (ruleOf π) now) (coldChoice s (ruleOf π) now);
-        }
-    go false = record { number = refl; decision = refl }
+-- what the kept pCPUs of a system leave as it is
+pub record Forgets (s : System) (π : Scheduler) (now : ℕ) : Type 0 where
+  -- neither the verdict nor a service reads them
+  pub verdict : firstViolation (withoutLasts s) ≡ firstViolation s
+  pub service : (i : ℕ) → serviceAt (withoutLasts s) π now i ≡ serviceAt s π now i
+  -- and `next` tells and picks the same without them
+  pub alike : AlikeAnywhere (next s π now) (next (withoutLasts s) π now)
+  -- by the Rust's rule: onto the lowest-numbered pCPU that it may be dispatched onto
+  pub lowest : (d v p q : ℕ) → (next (withoutLasts s) π now) .decision ≡ decision.Run d v p
+      → CanRun (withoutLasts s) (slot d v) q → p ≤ q

@@ -5,6 +5,7 @@ pub mod Answered
 pub mod BackToLast
 pub mod Enacting
 pub mod Least
+pub mod ByIds
 pub mod Internal
 pub mod Computing
 pub mod Rows

@@ -21,7 +21,7 @@ use Rattle.policy.specs.Accounts.{noOffset, offsetOf, wasSchedulable, putAccoun
 use Rattle.advance.specs.declared.Decision.{Decision}
 use Rattle.advance.specs.declared.Decision.the-variants as decision
 use Rattle.advance.specs.Advance.{next, Advance, advance}
-use Rattle.advance.specs.BackToLast.{coldNext}
+use Rattle.advance.specs.BackToLast.{withoutLasts}
 use Rattle.advance.specs.Outcomes.{counted}
 use Rattle.advance.specs.Computing.{computing}
 
@@ -126,9 +126,9 @@ table =
     -- back onto pCPU 1, by `next` and by an advance; upstream says pCPU 0
     ∷ rows (decided ((next away (freshPolicy 1 1 10) 0) .decision)) (onto 0 0 1)
     ∷ rows (moved ((advance away (freshPolicy 1 1 10) 0) .moves)) (onto 0 0 1)
-    ∷ rows (decided ((coldNext away (freshPolicy 1 1 10) 0) .decision)) (onto 0 0 0)
+    ∷ rows (decided ((next (withoutLasts away) (freshPolicy 1 1 10) 0) .decision)) (onto 0 0 0)
     ∷ []
 
 pub rows-due : AllDue table
-unfolding computing coldNext
+unfolding computing withoutLasts
 rows-due = refl

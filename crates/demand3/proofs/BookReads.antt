@@ -1,5 +1,5 @@
 -- Every read of a sound system that agrees with the book gives what the book says. Assumes nothing.
-use Prim.Native.Nat.{ℕ, _-_, _%_, _^_, _≤_, _<_}
+use Prim.Native.Nat.{ℕ, _+_, _-_, _%_, _^_, _≤_, _<_}
 use mathlib.Core.Bool.{Bool, true, false, cond, not, _&&_, and-false}
 use mathlib.Core.Path.{_≡_, refl, sym, _∙_, ap, ap₂}
 use mathlib.Core.Logic.{_⊎_, inl, inr}
@@ -17,14 +17,18 @@ use Rattle.system.specs.declared.System.{System}
 use Rattle.system.specs.declared.MaybeVcpu.{MaybeVcpu}
 use Rattle.system.specs.declared.MaybeState.{MaybeState}
 use Rattle.system.specs.declared.MaybeU64.{MaybeU64}
+use Rattle.system.specs.Records.{flight, inFlight, runtimeUntil}
 use Rattle.system.specs.States.{whileRunning}
 use Rattle.system.specs.Slots.{domains, vcpus, pcpus, slot}
 use Rattle.system.specs.Reads.{vcpuAt, occupantAt, isIdle, vcpuOf, stateIn, runs, runtimeIn, since, sinceIn}
 use Rattle.system.specs.Reads.{affinityIn, permitsIn, count, count-same, busyPcpus}
 use Rattle.verdict.specs.Sound.{Sound, sound-none}
 use Rattle.scan.specs.Scan.{some}
+use Rattle.usage.specs.Usage.{sum, usage}
+use Rattle.usage.specs.Sums.{sum-same}
 use Rattle.demand3.specs.Book.{Line, Book, Shape, holder}
 use Rattle.demand3.specs.Agreement.{Says, Agrees}
+use Rattle.demand3.specs.Lists.{openPart, bookService}
 use Rattle.demand3.specs.Reads.{ReadsLine, ReadsAbsent, ReadsAgree}
 use Rattle.demand3.proofs.Holders.{held-busy, shaped-domains, shaped-vcpus, shaped-pcpus}
 
@@ -52,6 +56,18 @@ since-says y Runnable e = refl
 since-says y (Running p) e = ap MaybeU64.Some (sym (y .clock p e))
 since-says y Blocked e = refl
 
+-- and its service at a reading
+pub service-says : (b : Book) (s : System) (r i : ℕ) → Says (b i) (vcpuAt s i) → bookService b r i ≡ runtimeUntil (vcpuAt s i) r
+unfolding inFlight
+service-says b s r i y =
+    ap₂ _+_ (y .time) (ap (openPart (b i) r) (y .state) ∙ open-same ((vcpuAt s i) .state) refl)
+  where
+    open-same : (st : RunState) → (vcpuAt s i) .state ≡ st → openPart (b i) r st ≡ flight (vcpuAt s i) r st
+    open-same Offline e = refl
+    open-same Runnable e = refl
+    open-same (Running p) e = ap (λ (c : ℕ). r - c) (y .clock p e)
+    open-same Blocked e = refl
+
 module _ {k : Shape} {b : Book} {s : System} (A : Agrees k b s) (S : Sound s) where
   same-domains : domains s ≡ k .domains
   same-domains = shaped-domains (A .shape) S
@@ -71,6 +87,11 @@ module _ {k : Shape} {b : Book} {s : System} (A : Agrees k b s) (S : Sound s) wh
   unfolding vcpuOf
   not-found d v (inl l) = rw (le-ltb d (domains s) (omega (arith, same-domains)))
   not-found d v (inr l) = rw (le-ltb v (vcpus s) (omega (arith, same-vcpus)), and-false (ltb d (domains s)))
+
+  says-there : (d v : ℕ) → d < k .domains → v < k .vcpus → Says (b (slot d v)) (vcpuAt s (slot d v))
+  says-there d v l m =
+      let z : k .vcpus ≤ 8 = omega (arith, S .vcpus, A .shape .vcpus) in
+      A .lines (slot d v) (record { domain = omega arith; vcpu = omega arith })
 
   reads-line : (d v : ℕ) → d < k .domains → v < k .vcpus → ReadsLine s d v (k .pcpus) (b (slot d v))
   reads-line d v l m =
@@ -95,9 +116,7 @@ module _ {k : Shape} {b : Book} {s : System} (A : Agrees k b s) (S : Sound s) wh
       f = found d v l m
 
       y : Says (b (slot d v)) (vcpuAt s (slot d v))
-      y =
-          let z : k .vcpus ≤ 8 = omega (arith, S .vcpus, A .shape .vcpus) in
-          A .lines (slot d v) (record { domain = omega arith; vcpu = omega arith })
+      y = says-there d v l m
 
   reads-absent : (d v : ℕ) → (k .domains ≤ d) ⊎ (k .vcpus ≤ v) → ReadsAbsent s d v
   reads-absent d v l =
@@ -112,6 +131,15 @@ module _ {k : Shape} {b : Book} {s : System} (A : Agrees k b s) (S : Sound s) wh
         permits = λ p. ap (λ (x : MaybeVcpu). ltb p (pcpus s) && permitsIn x p) f ∙ and-false (ltb p (pcpus s));
       }
 
+  reads-used : (d r : ℕ) → d < k .domains → usage s d r ≡ sum (λ v. bookService b r (slot d v)) (k .vcpus)
+  reads-used d r l =
+      ap (sum (λ v. runtimeUntil (vcpuAt s (slot d v)) r)) (rw (lt-ltb d (domains s) (omega (arith, same-domains))) same-vcpus)
+      ∙ sum-same _ _ (k .vcpus) (λ v m. sym (service-says b s r (slot d v) (says-there d v l m)))
+
+  reads-unused : (d r : ℕ) → k .domains ≤ d → usage s d r ≡ 0
+  unfolding sum
+  reads-unused d r l = rw (le-ltb d (domains s) (omega (arith, same-domains)))
+
   busy-count : busyPcpus s ≡ count (λ p. some (holder k b p)) (k .pcpus)
   unfolding occupantAt
   busy-count =
@@ -124,6 +152,8 @@ module _ {k : Shape} {b : Book} {s : System} (A : Agrees k b s) (S : Sound s) wh
       record {
         line = reads-line;
         absent = reads-absent;
+        used = reads-used;
+        unused = reads-unused;
         occupant = λ p l. rw (lt-ltb p (pcpus s) (omega (arith, same-pcpus))) (A .holders p l);
         no-occupant = λ p l. rw (le-ltb p (pcpus s) (omega (arith, same-pcpus)));
         domains = same-domains;

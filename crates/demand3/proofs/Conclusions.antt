@@ -1,7 +1,7 @@
 -- From what is kept along a list to what demand 3 says of it. Assumes nothing.
 use Prim.Native.Nat.{ℕ, _+_, _-_, _*_, _/_, _%_, _^_, _≤_, _<_}
 use mathlib.Core.Bool.{true}
-use mathlib.Core.Path.{_≡_, refl, sym, _∙_, ap, ap₂, subst}
+use mathlib.Core.Path.{_≡_, refl, sym, _∙_, ap, subst}
 use mathlib.Core.List.{List, [], _∷_, _++_}
 use native.Mathlib.Omega.{arith}
 use native.Mathlib.Nat.{mul-le-mul-right, le-trans}
@@ -38,12 +38,14 @@ use Rattle.host.specs.Step.{step, hostAfter, freshHost, Sliced}
 use Rattle.demand3.specs.Book.{Book, Shape, blankBook, holder, occupantBy, enter}
 use Rattle.demand3.specs.Agreement.{PresentIn, Says, Agrees}
 use Rattle.demand3.proofs.Holders.{shaped-present, agrees}
-use Rattle.demand3.specs.Lists.{bookAfter, openPart, bookService}
+use Rattle.demand3.proofs.BookReads.{service-says}
+use Rattle.demand3.specs.Lists.{bookAfter, bookService}
 use Rattle.demand3.proofs.EveryCall.{Kept, step-goes, advance-traced, advance-rests-here, step-slice}
 use Rattle.demand3.proofs.WeightCalls.{Weighs}
 use Rattle.demand3.proofs.BeforeFirstAdvance.{New}
 use Rattle.demand3.proofs.Pool.{Pooling}
-use Rattle.demand3.proofs.PoolLists.{Prepared}
+use Rattle.demand3.proofs.Preparing.{Prepared}
+use Rattle.demand3.proofs.PoolLists.{Even}
 
 -- ---- a fresh host
 
@@ -148,14 +150,7 @@ module _ {k : Shape} {b : Book} {h : Host} (K : Kept k b h) where
 
   -- the book's service is the system's
   service-same : (r i : ℕ) → Present s i → bookService b r i ≡ rawService s r i
-  unfolding inFlight
-  service-same r i h = let y = K .in-step .lines .says i h in ap₂ _+_ (y .time) (ap (openPart (b i) r) (y .state) ∙ open-same y ((vcpuAt s i) .state) refl)
-    where
-      open-same : Says (b i) (vcpuAt s i) → (st : RunState) → (vcpuAt s i) .state ≡ st → openPart (b i) r st ≡ flight (vcpuAt s i) r st
-      open-same y Offline e = refl
-      open-same y Runnable e = refl
-      open-same y (Running p) e = ap (λ (c : ℕ). r - c) (y .clock p e)
-      open-same y Blocked e = refl
+  service-same r i h = service-says b s r i (K .in-step .lines .says i h)
 
 -- as an advance returns, nobody of the book waits beside a pCPU that nobody of the book holds
 pub quiet : {k : Shape} {b : Book} {h : Host} (K : Kept k b h) (now : ℕ) → Sliced h
@@ -176,9 +171,9 @@ quiet {k} {b} {h} K now q i p x l e f g =
     refl
 
 -- where no offset is set and run times are words, the service that ranks is the book's, which nothing holds
-pub point-service : {k : Shape} {b : Book} {h : Host} {g t : ℕ} (r : ℕ) → Kept k b h → Pooling g t (h .system) (h .scheduler) → r < 2 ^ 64
+pub point-service : {k : Shape} {b : Book} {h : Host} (r : ℕ) → Kept k b h → Even h → r < 2 ^ 64
     → (i : ℕ) → PresentIn k i → serviceAt (h .system) (h .scheduler) r i ≡ bookService b r i
-point-service r K P l i x = service-raw (plain-level (P .plain) (P .words) l) i ∙ sym (service-same K r i (exists K x))
+point-service r K E l i x = service-raw (plain-level (E .plain) (E .words) l) i ∙ sym (service-same K r i (exists K x))
 
 pub after-slice : {k : Shape} (cs : List Call) (h : Host) (b : Book) → Kept k b h → (hostAfter h cs) .scheduler .quantum ≡ h .scheduler .quantum
 unfolding hostAfter
@@ -198,10 +193,10 @@ earlier {w} {lim} {s} {t} r l L i j hi hj h e =
     lower (Running p) = omega arith
     lower Blocked = omega arith
 
-pub point-lag : {k : Shape} {b : Book} {h : Host} {g t : ℕ} (r : ℕ) → Kept k b h → Pooling g t (h .system) (h .scheduler) → r ≤ t + g → (i j : ℕ)
+pub point-lag : {k : Shape} {b : Book} {h : Host} {g t : ℕ} (r : ℕ) → Kept k b h → Sliced h → Pooling g t (h .system) (h .scheduler) → r ≤ t + g → (i j : ℕ)
     → PresentIn k i → PresentIn k j → schedulable ((b i) .state) ≡ true → (b j) .state ≡ Runnable
     → let w = weightAt (h .scheduler) in bookService b r i * w j ≤ bookService b r j * w i + (h .scheduler .quantum + g - 1) * w j
-point-lag {b = b} {h = h} {g = g} {t = t} r K P up i j x y e f =
+point-lag {b = b} {h = h} {g = g} {t = t} r K q P up i j x y e f =
     let hi = exists K x in
     let hj = exists K y in
     let L = K .in-step .lines in
@@ -211,5 +206,5 @@ point-lag {b = b} {h = h} {g = g} {t = t} r K P up i j x y e f =
   where
     go : Present (h .system) i → Present (h .system) j → schedulable (stateAt (h .system) i) ≡ true → stateAt (h .system) j ≡ Runnable → Dec (t ≤ r)
         → rawService (h .system) r i * weightAt (h .scheduler) j ≤ rawService (h .system) r j * weightAt (h .scheduler) i + (h .scheduler .quantum + g - 1) * weightAt (h .scheduler) j
-    go hi hj pi wj (yes l) = P .bounded r l up .lag i j hi hj pi wj
-    go hi hj pi wj (no n) = earlier r (omega arith) (P .bounded t (omega arith) (omega arith)) i j hi hj pi wj
+    go hi hj pi wj (yes l) = P .bounded q r l up .lag i j hi hj pi wj
+    go hi hj pi wj (no n) = earlier r (omega arith) (P .bounded q t (omega arith) (omega arith)) i j hi hj pi wj

@@ -14,7 +14,6 @@ use Rattle.host.specs.declared.Call.{Call}
 use Rattle.host.specs.Step.{hostAfter, freshHost, Sliced}
 use Rattle.demand3.specs.Book.{Book, Shape, blankBook, holder}
 use Rattle.demand3.specs.Lists.{AllTyped, bookAfter, PoolList, latest, bookService}
-use Rattle.demand3.specs.Lists as lists
 use Rattle.demand3.specs.Agreement.{PresentIn}
 use Rattle.demand3.specs.Reads.{ReadsAgree}
 use Rattle.demand3.specs.Weights.{weightAfter}
@@ -23,8 +22,7 @@ use Rattle.demand3.proofs.EveryCall.{Kept, step-goes}
 use Rattle.demand3.proofs.BookReads.{clipped-bits, reads-agree}
 use Rattle.demand3.proofs.ClippedMasks.{after-clips, blank-clips}
 use Rattle.demand3.proofs.WeightCalls.{weighs-all, after-weighs}
-use Rattle.demand3.proofs.Pool.{Pooling}
-use Rattle.demand3.proofs.PoolLists.{list-along}
+use Rattle.demand3.proofs.PoolLists.{At, list-along, bounded-at, even-at}
 use Rattle.demand3.proofs.Conclusions.{fresh-kept, fresh-weighs, fresh-prepared, after-kept, book-append, point-agrees, few-moves, two-moves, quiet, after-slice, point-lag, point-service}
 
 pub demand-3 : EveryFreshHost
@@ -52,9 +50,9 @@ demand-3 d v p e u q hd hv hp cs f =
           (λ (o : ℕ).
           bookService (book before) r i * weight before j ≤ bookService (book before) r j * weight before i + (o + g - 1) * weight before j)
           (slice before)
-          (point-lag r (at-point before) (bounded s g l before rest x t y) z i j a c n m));
-      offsets = λ s g l before rest x t y i. bounded s g l before rest x t y .plain .offsets i;
-      services = λ s g l before rest x t r y z. point-service r (at-point before) (bounded s g l before rest x t y) z;
+          (point-lag r (at-point before) (sliced s before) (bounded-at t (pooled g l before rest x) y) z i j a c n m));
+      offsets = λ g l before rest x. even-at (pooled g l before rest x) .plain .offsets;
+      services = λ g l before rest x r. point-service r (at-point before) (even-at (pooled g l before rest x));
     }
   where
     k : Shape
@@ -90,7 +88,6 @@ demand-3 d v p e u q hd hv hp cs f =
     sliced : 1 ≤ q → (before : List Call) → Sliced (hostAfter h before)
     sliced s before = omega (arith, slice before)
 
-    bounded : 1 ≤ q → (g : ℕ) → PoolList g h cs → (before rest : List Call) → cs ≡ before ++ rest → (t : ℕ) → latest before ≡ lists.at t
-        → Pooling g t ((hostAfter h before) .system) ((hostAfter h before) .scheduler)
-    bounded s g l before rest x t y =
-        list-along t before rest (subst (PoolList g h) x l) (subst AllTyped x f) start s (fresh-prepared d v p e u q hd hv hp) y
+    pooled : (g : ℕ) → PoolList g h cs → (before rest : List Call) → cs ≡ before ++ rest → At g (hostAfter h before) (latest before)
+    pooled g l before rest x =
+        list-along before rest (subst (PoolList g h) x l) (subst AllTyped x f) start (fresh-prepared d v p e u q hd hv hp)

@@ -8,3 +8,8 @@ pub use Rattle.demand3.proofs.Uncut.{uncut}
 pub use Rattle.demand3.proofs.Unset.{unset-ranks}
 -- each vCPU record keeps the pCPU that it was last dispatched onto
 pub use Rattle.demand3.proofs.LastPcpu.{last-kept}
+-- the book and the dated moves say the same of who holds a pCPU since when
+pub use Rattle.demand3.proofs.MovesTell.{moves-tell}
+-- a fresh host is in step with its book, and every call keeps it so
+pub use Rattle.demand3.proofs.EveryCall.{Kept, step-goes}
+pub use Rattle.demand3.proofs.Conclusions.{fresh-kept}

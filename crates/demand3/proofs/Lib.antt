@@ -18,6 +18,7 @@ pub mod MovesTell
 mod Notes
 mod Noting
 mod Pool
+mod Preparing
 mod PoolLists
 mod SetWeight
 mod Tracked

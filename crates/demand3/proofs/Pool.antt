@@ -1,4 +1,5 @@
--- What each call of a pool list keeps: the lag is bounded up to g after the latest advance. Assumes nothing.
+-- What each call of a pool list keeps: no offset is set, and with a slice of 1 or more the lag is bounded up to g after the latest
+-- advance. Assumes nothing.
 use Prim.Native.Nat.{ℕ, _+_, _-_, _/_, _%_, _^_, _≤_, _<_}
 use mathlib.Core.Bool.{Bool, true, false, false≢true}
 use mathlib.Core.Path.{_≡_, refl, sym, _∙_, ap, subst}
@@ -41,7 +42,7 @@ slack π g = π .quantum + g - 1
 
 -- after an advance at clock t
 pub record Pooling (g t : ℕ) (s : System) (π : Scheduler) : Type 0 where
-  pub bounded : (r : ℕ) → t ≤ r → r ≤ t + g → Lag (weightAt π) (slack π g) s r
+  pub bounded : 1 ≤ π .quantum → (r : ℕ) → t ≤ r → r ≤ t + g → Lag (weightAt π) (slack π g) s r
   pub plain : Plain π
   pub tabled : Tabled π
   pub words : Words s
@@ -54,7 +55,7 @@ same-weights {w} {w′} {lim} {now} {s} e L = subst (λ (u : ℕ → ℕ). Lag u
 
 -- ---- an advance
 
-module _ (s : System) (π : Scheduler) (now g : ℕ) (fit : now < 2 ^ 64) (slice : 1 ≤ π .quantum) (tb : Tables s) (S : Sound s) (words : Words s)
+module _ (s : System) (π : Scheduler) (now g : ℕ) (fit : now < 2 ^ 64) (tb : Tables s) (S : Sound s) (words : Words s)
     (L : Tabled π) where
   abbrev ρ : Scheduler
   ρ = accounted s π now
@@ -71,14 +72,19 @@ module _ (s : System) (π : Scheduler) (now g : ℕ) (fit : now < 2 ^ 64) (slice
   unfolding accounted
   tabled′ = record { accounts = renew-same s π now (slots s) .tabled ∙ L .accounts }
 
-  -- an advance that sets no offset, on a system where the lag is bounded at its clock
-  settles-pooling : {t : System} {cs : List Choice} → Plain ρ → Lag (weightAt π) (slack π g) s now → Trace (ruleOf ρ) now s cs t → choice t (ruleOf ρ) now ≡ Rest → Pooling g now t ρ
+  -- an advance that sets no offset, on a system where the lag is bounded at its clock, and comes to rest
+  settles-pooling : {t : System} {cs : List Choice} → Plain ρ → (1 ≤ π .quantum → Lag (weightAt π) (slack π g) s now)
+      → Trace (ruleOf ρ) now s cs t → (1 ≤ π .quantum → choice t (ruleOf ρ) now ≡ Rest) → Pooling g now t ρ
   settles-pooling {t} P lag tr e =
       let k = trace-keeps tr tb S in
-      let here = same-weights (λ i. sym (accounted-renewal s π L now i .weight)) (subst (λ (q : ℕ). Lag (weightAt π) (q + g - 1) s now) (sym same-slice) lag) in
-      let there = trace-lag ρ P (slack ρ g) tr fit words tb S here in
       record {
-        bounded = λ r lo up. rest-lag ρ P (slack ρ g) t now g r fit (k .times words .word) (k .sound) there e (omega (arith, same-slice)) (omega (arith, same-slice)) lo up;
+        bounded = λ q r lo up.
+            let l : 1 ≤ π .quantum = omega (arith, same-slice) in
+            let here =
+            same-weights (λ i. sym (accounted-renewal s π L now i .weight))
+            (subst (λ (q : ℕ). Lag (weightAt π) (q + g - 1) s now) (sym same-slice) (lag l)) in
+            rest-lag ρ P (slack ρ g) t now g r fit (k .times words .word) (k .sound) (trace-lag ρ P (slack ρ g) tr fit words tb S here) (e l)
+            (omega arith) (omega arith) lo up;
         plain = P;
         tabled = tabled′;
         words = k .times words .word;
@@ -102,27 +108,28 @@ no-floor s π now u = go (floor s π now) refl
     go nobody e = refl
     go (at f) e = absurd (false≢true (sym (u f) ∙ floor-stayed s π now f e .was-pooled))
 
-pub first-advance : {s t : System} {π : Scheduler} {cs : List Choice} (now g : ℕ) → now < 2 ^ 64 → 1 ≤ π .quantum → Tables s → Sound s → Words s
+pub first-advance : {s t : System} {π : Scheduler} {cs : List Choice} (now g : ℕ) → now < 2 ^ 64 → Tables s → Sound s → Words s
     → Tabled π → Plain π → ((i : ℕ) → wasSchedulable π (i / 8) (i % 8) ≡ false) → Lag (weightAt π) (slack π g) s now
-    → Trace (ruleOf (accounted s π now)) now s cs t → choice t (ruleOf (accounted s π now)) now ≡ Rest → Pooling g now t (accounted s π now)
-first-advance {s} {t} {π} now g fit q tb S w L P u lag tr e =
-    settles-pooling s π now g fit q tb S w L (unlifted s π now g fit q tb S w L P (λ i. renewal.no-floor (no-floor s π now u))) lag tr e
-
-pub next-advance : {s t : System} {π : Scheduler} {cs : List Choice} (t₀ now g : ℕ) → now < 2 ^ 64 → 1 ≤ π .quantum → Tables s → Sound s
-    → Pooling g t₀ s π → t₀ ≤ now → now ≤ t₀ + g → Trace (ruleOf (accounted s π now)) now s cs t → choice t (ruleOf (accounted s π now)) now ≡ Rest
+    → Trace (ruleOf (accounted s π now)) now s cs t → (1 ≤ π .quantum → choice t (ruleOf (accounted s π now)) now ≡ Rest)
     → Pooling g now t (accounted s π now)
-next-advance {s} {t} {π} t₀ now g fit q tb S p lo up tr e =
-    settles-pooling s π now g fit q tb S (p .words) (p .tabled)
-    (unlifted s π now g fit q tb S (p .words) (p .tabled) (p .plain)
+first-advance {s} {t} {π} now g fit tb S w L P u lag tr e =
+    settles-pooling s π now g fit tb S w L (unlifted s π now g fit tb S w L P (λ i. renewal.no-floor (no-floor s π now u))) (λ q. lag) tr e
+
+pub next-advance : {s t : System} {π : Scheduler} {cs : List Choice} (t₀ now g : ℕ) → now < 2 ^ 64 → Tables s → Sound s
+    → Pooling g t₀ s π → t₀ ≤ now → now ≤ t₀ + g → Trace (ruleOf (accounted s π now)) now s cs t
+    → (1 ≤ π .quantum → choice t (ruleOf (accounted s π now)) now ≡ Rest) → Pooling g now t (accounted s π now)
+next-advance {s} {t} {π} t₀ now g fit tb S p lo up tr e =
+    settles-pooling s π now g fit tb S (p .words) (p .tabled)
+    (unlifted s π now g fit tb S (p .words) (p .tabled) (p .plain)
     (λ i. renewal.not-joined (λ j. false≢true (sym (j .was-not) ∙ p .seen i (j .account .present) (j .is-pooled) (j .account .covered)))))
-    (p .bounded now lo up) tr e
+    (λ q. p .bounded q now lo up) tr e
 
 -- ---- the other calls
 
 pub departure : {s s′ : System} {π : Scheduler} {g t : ℕ} → Shrinks s s′ → Keeps s s′ → Pooling g t s π → Pooling g t s′ π
 departure {s} {s′} {π} x k p =
     record {
-      bounded = λ r lo up. shrinks-lag x (p .bounded r lo up);
+      bounded = λ q r lo up. shrinks-lag x (p .bounded q r lo up);
       plain = p .plain;
       tabled = p .tabled;
       words = k .times (p .words) .word;
@@ -135,7 +142,7 @@ pub boosted : {s : System} {π : Scheduler} {g t : ℕ} (on : Bool) → Pooling 
 unfolding setWakeBoost
 boosted {s} {π} on p =
     record {
-      bounded = λ r lo up. same-weights (λ i. sym (weight i)) (p .bounded r lo up);
+      bounded = λ q r lo up. same-weights (λ i. sym (weight i)) (p .bounded q r lo up);
       plain = record { offsets = λ i. look .offset (i / 8) (i % 8); weights = λ i. omega (arith, weight i, p .plain .weights i) };
       tabled = cleared-tabled π (p .tabled) on;
       words = p .words;

@@ -1,32 +1,27 @@
--- Along a pool list the lag is bounded at every point after the first advance. Assumes nothing.
-use Prim.Native.Nat.{ℕ, _+_, _-_, _/_, _%_, _^_, _≤_, _<_, max}
-use mathlib.Core.Bool.{Bool, false}
-use mathlib.Core.Path.{_≡_, refl, sym, _∙_, ap, subst}
-use mathlib.Core.Logic.{_⊎_, inl, inr}
+-- Along a pool list no offset is set, and with a slice of 1 or more the lag is bounded at every point after the first advance. Assumes
+-- nothing.
+use Prim.Native.Nat.{ℕ, _+_, _^_, _≤_, _<_}
+use mathlib.Core.Bool.{Bool}
+use mathlib.Core.Path.{_≡_, refl, sym, ap, subst}
 use mathlib.Core.List.{List, [], _∷_, _++_}
-use native.Mathlib.Omega.{arith}
 use Rattle.scan.specs.Booleans.{zero-one}
 use Rattle.system.specs.declared.System.{System}
 use Rattle.system.specs.Answers.{SystemOutcome}
 use Rattle.sched.specs.Answered.{Answered, requested-answered, offline-all-answered}
-use Rattle.sched.specs.Invariants.{Keeps}
 use Rattle.sched.proofs.Laws.{requested-keeps, offline-all-keeps}
 use Rattle.policy.specs.declared.Scheduler.{Scheduler}
-use Rattle.policy.specs.Accounts.{wasSchedulable, setWeight, setWakeBoost}
 use Rattle.policy.specs.Standing.{weightAt}
-use Rattle.policy.specs.Settings.{Weighed, Cleared}
-use Rattle.policy.proofs.Laws.{Tabled, set-weighed, set-weight-either, set-weight-tabled, cleared, cleared-tabled}
 use Rattle.demand3.proofs.LagMoves.{Plain}
 use Rattle.host.specs.declared.Host.{Host}
 use Rattle.host.specs.declared.Call.{Call}
-use Rattle.host.specs.Step.{step, bySystem, hostAfter, Sliced}
+use Rattle.host.specs.Step.{step, bySystem, hostAfter}
 use Rattle.demand3.specs.Book.{Book, Shape}
-use Rattle.host.specs.Typed.{Typed}
 use Rattle.demand3.specs.Lists.{AllTyped, Prepares, Departs, PoolRest, PoolList, Clock, orEarlier, advanceClock, latest}
 use Rattle.demand3.specs.Lists as lists
-use Rattle.demand3.proofs.EveryCall.{Kept, step-goes, advance-traced, advance-rests-here, step-slice}
+use Rattle.demand3.proofs.EveryCall.{Kept, step-goes, advance-traced, advance-rests-here}
 use Rattle.demand3.proofs.Departures.{block-shrinks, offline-shrinks, offline-all-shrinks}
-use Rattle.demand3.proofs.BeforeFirstAdvance.{Unrun, admit-unrun, block-unrun, wake-unrun, mask-unrun, offline-unrun, offline-all-unrun, unrun-lag}
+use Rattle.demand3.proofs.BeforeFirstAdvance.{unrun-lag}
+use Rattle.demand3.proofs.Preparing.{Prepared, Next, prepare}
 use Rattle.demand3.proofs.Pool.{Words, slack, Pooling, first-advance, next-advance, departure, boosted}
 
 -- ---- a refused call leaves the host as it was
@@ -48,102 +43,26 @@ refused-same {h = h} (Call.SetWeight d v w) K n = absurd (n refl)
 refused-same {h = h} (Call.SetWakeBoost on) K n = absurd (n refl)
 refused-same {h = h} (Call.Advance now) K n = absurd (n (advance-traced now K .told))
 
--- ---- before the first advance
-
-pub record Prepared (h : Host) : Type 0 where
-  pub unrun : Unrun (h .system)
-  pub plain : Plain (h .scheduler)
-  pub tabled : Tabled (h .scheduler)
-  pub words : Words (h .system)
-  pub unseen : (i : ℕ) → wasSchedulable (h .scheduler) (i / 8) (i % 8) ≡ false
-
-abbrev Next : Host → Call → Host
-Next h c = (step h c) .host
-
--- a call of the mechanism touches no account
-by-mechanism : {h : Host} {s : System} → Prepared h → Keeps (h .system) s → Unrun s → Prepared (record { system = s; scheduler = h .scheduler })
-by-mechanism P m y = record { unrun = y; plain = P .plain; tabled = P .tabled; words = m .times (P .words) .word; unseen = P .unseen }
-
-prepare : {k : Shape} {b : Book} {h : Host} {c : Call} → Kept k b h → Prepared h → Typed c → Prepares (h .system .«pcpu_count») c
-    → Prepared (Next h c)
-unfolding step
-prepare {h = h} K P f (lists.Prepares.admit d v) =
-    let T = K .in-step in
-    by-mechanism P (requested-keeps _ (T .sound) (T .tables) d v _) (admit-unrun _ (T .tables) (T .sound) (P .unrun) d v)
-prepare {h = h} K P f (lists.Prepares.block d v now) =
-    let T = K .in-step in
-    by-mechanism P (requested-keeps _ (T .sound) (T .tables) d v _) (block-unrun _ (T .tables) (T .sound) (P .unrun) d v now)
-prepare {h = h} K P f (lists.Prepares.wake d v) =
-    let T = K .in-step in
-    by-mechanism P (requested-keeps _ (T .sound) (T .tables) d v _) (wake-unrun _ (T .tables) (T .sound) (P .unrun) d v)
-prepare {h = h} K P f (lists.Prepares.offline d v now) =
-    let T = K .in-step in
-    by-mechanism P (requested-keeps _ (T .sound) (T .tables) d v _) (offline-unrun _ (T .tables) (T .sound) (P .unrun) d v now)
-prepare {h = h} K P f (lists.Prepares.offline-all d now) =
-    let T = K .in-step in
-    by-mechanism P (offline-all-keeps _ (T .sound) (T .tables) d now) (offline-all-unrun _ (T .tables) (T .sound) (P .unrun) d now)
-prepare {h = h} K P f (lists.Prepares.mask d v m e) =
-    let T = K .in-step in
-    by-mechanism P (requested-keeps _ (T .sound) (T .tables) d v _) (mask-unrun _ (T .tables) (T .sound) (P .unrun) d v _ e)
-prepare {h = h} K P f (lists.Prepares.weigh d v w) =
-    record {
-      unrun = P .unrun;
-      plain =
-          record {
-            offsets = λ i. look .offset (i / 8) (i % 8) ∙ P .plain .offsets i;
-            weights = λ i. weight i (set-weight-either (h .scheduler) (P .tabled) d v w (i / 8) (i % 8));
-          };
-      tabled = set-weight-tabled (h .scheduler) (P .tabled) d v w;
-      words = P .words;
-      unseen = λ i. look .snapshot (i / 8) (i % 8) ∙ P .unseen i;
-    }
-  where
-    look : Weighed (h .scheduler) d v w (setWeight (h .scheduler) d v w)
-    look = set-weighed (h .scheduler) (P .tabled) d v w
-
-    weight : (i : ℕ) → (weightAt (setWeight (h .scheduler) d v w) i ≡ max w 1) ⊎ (weightAt (setWeight (h .scheduler) d v w) i ≡ weightAt (h .scheduler) i)
-        → weightAt (setWeight (h .scheduler) d v w) i < 2 ^ 32
-    weight i (inl e) = omega (arith, f .2)
-    weight i (inr e) = omega (arith, P .plain .weights i)
-prepare {h = h} K P f (lists.Prepares.boost on) =
-    record {
-      unrun = P .unrun;
-      plain =
-          record {
-            offsets = λ i. look .offset (i / 8) (i % 8);
-            weights = λ i. omega (arith, look .weight (i / 8) (i % 8), P .plain .weights i);
-          };
-      tabled = cleared-tabled (h .scheduler) (P .tabled) on;
-      words = P .words;
-      unseen = λ i. look .snapshot (i / 8) (i % 8) ∙ P .unseen i;
-    }
-  where
-    look : Cleared (h .scheduler) on (setWakeBoost (h .scheduler) on)
-    look = cleared (h .scheduler) on
-
 -- ---- along the list
 
 abbrev pub Bounded : ℕ → ℕ → Host → Type 0
 Bounded g t h = Pooling g t (h .system) (h .scheduler)
 
-still-sliced : {k : Shape} {b : Book} {h : Host} (c : Call) → Kept k b h → Sliced h → Sliced (Next h c)
-still-sliced c K q = omega (arith, step-slice c K)
-
-start : {k : Shape} {b : Book} {h : Host} (g now : ℕ) → now < 2 ^ 64 → Kept k b h → Sliced h → Prepared h → Bounded g now (Next h (Call.Advance now))
-start {h = h} g now fit K q P =
+start : {k : Shape} {b : Book} {h : Host} (g now : ℕ) → now < 2 ^ 64 → Kept k b h → Prepared h → Bounded g now (Next h (Call.Advance now))
+start {h = h} g now fit K P =
     let A = advance-traced now K in
     let T = K .in-step in
     subst (λ (π : Scheduler). Pooling g now ((Next h (Call.Advance now)) .system) π) (sym (A .policy))
-    (first-advance now g fit q (T .tables) (T .sound) (P .words) (P .tabled) (P .plain) (P .unseen)
-    (unrun-lag _ (T .tables) (T .sound) (P .unrun) (weightAt (h .scheduler)) (slack (h .scheduler) g) now) (A .trace) (advance-rests-here now K q))
+    (first-advance now g fit (T .tables) (T .sound) (P .words) (P .tabled) (P .plain) (P .unseen)
+    (unrun-lag _ (T .tables) (T .sound) (P .unrun) (weightAt (h .scheduler)) (slack (h .scheduler) g) now) (A .trace) (advance-rests-here now K))
 
-go-on : {k : Shape} {b : Book} {h : Host} (g t now : ℕ) → now < 2 ^ 64 → t ≤ now → now ≤ t + g → Kept k b h → Sliced h → Bounded g t h
+go-on : {k : Shape} {b : Book} {h : Host} (g t now : ℕ) → now < 2 ^ 64 → t ≤ now → now ≤ t + g → Kept k b h → Bounded g t h
     → Bounded g now (Next h (Call.Advance now))
-go-on {h = h} g t now fit lo up K q p =
+go-on {h = h} g t now fit lo up K p =
     let A = advance-traced now K in
     let T = K .in-step in
     subst (λ (π : Scheduler). Pooling g now ((Next h (Call.Advance now)) .system) π) (sym (A .policy))
-    (next-advance t now g fit q (T .tables) (T .sound) p lo up (A .trace) (advance-rests-here now K q))
+    (next-advance t now g fit (T .tables) (T .sound) p lo up (A .trace) (advance-rests-here now K))
 
 depart : {k : Shape} {b : Book} {h : Host} {c : Call} {g t : ℕ} → Kept k b h → Departs c → Bounded g t h → Bounded g t (Next h c)
 unfolding step
@@ -191,24 +110,21 @@ since-other t lists.none h = ap (since t) h
 since-other t (lists.at u) h = refl
 
 rest-along : {k : Shape} {b : Book} {h : Host} {g t : ℕ} (before rest : List Call) → PoolRest g h t (before ++ rest) → AllTyped (before ++ rest) → Kept k b h
-    → Sliced h → Bounded g t h → Bounded g (since t (latest before)) (hostAfter h before)
+    → Bounded g t h → Bounded g (since t (latest before)) (hostAfter h before)
 unfolding hostAfter latest
-rest-along [] rest r f K q p = p
-rest-along {h = h} {g = g} {t = t} (c ∷ bs) rest (lists.PoolRest.advances {n = n} lo up r) f K q p =
+rest-along [] rest r f K p = p
+rest-along {h = h} {g = g} {t = t} (c ∷ bs) rest (lists.PoolRest.advances {n = n} lo up r) f K p =
     subst (λ (u : ℕ). Bounded g u (hostAfter (Next h (Call.Advance n)) bs)) (sym (since-advance t n (latest bs)))
-    (rest-along bs rest r (f .1) (step-goes (Call.Advance n) K .kept) (still-sliced (Call.Advance n) K q) (go-on g t n (f .0) lo up K q p))
-rest-along {h = h} {g = g} {t = t} (c ∷ bs) rest (lists.PoolRest.departs d r) f K q p =
+    (rest-along bs rest r (f .1) (step-goes (Call.Advance n) K .kept) (go-on g t n (f .0) lo up K p))
+rest-along {h = h} {g = g} {t = t} (c ∷ bs) rest (lists.PoolRest.departs d r) f K p =
     subst (λ (u : ℕ). Bounded g u (hostAfter (Next h c) bs)) (sym (since-other t (latest bs) (not-advance d)))
-    (rest-along bs rest r (f .1) (step-goes c K .kept) (still-sliced c K q) (depart K d p))
-rest-along {h = h} {g = g} {t = t} (c ∷ bs) rest (lists.PoolRest.boosts {on = on} r) f K q p =
+    (rest-along bs rest r (f .1) (step-goes c K .kept) (depart K d p))
+rest-along {h = h} {g = g} {t = t} (c ∷ bs) rest (lists.PoolRest.boosts {on = on} r) f K p =
     subst (λ (u : ℕ). Bounded g u (hostAfter (Next h (Call.SetWakeBoost on)) bs)) (sym (since-other t (latest bs) refl))
-    (rest-along bs rest r (f .1) (step-goes (Call.SetWakeBoost on) K .kept) (still-sliced (Call.SetWakeBoost on) K q) (boost-on on p))
-rest-along {h = h} {g = g} {t = t} (c ∷ bs) rest (lists.PoolRest.refused n r) f K q p =
+    (rest-along bs rest r (f .1) (step-goes (Call.SetWakeBoost on) K .kept) (boost-on on p))
+rest-along {h = h} {g = g} {t = t} (c ∷ bs) rest (lists.PoolRest.refused n r) f K p =
     subst (λ (u : ℕ). Bounded g u (hostAfter (Next h c) bs)) (sym (since-other t (latest bs) (refused-no-advance c K n)))
-    (rest-along bs rest r (f .1) (step-goes c K .kept) (still-sliced c K q) (subst (Bounded g t) (sym (refused-same c K n)) p))
-
-none-at : (t : ℕ) → lists.none ≡ lists.at t → ⊥
-none-at t e = zero-one cc
+    (rest-along bs rest r (f .1) (step-goes c K .kept) (subst (Bounded g t) (sym (refused-same c K n)) p))
 
 prepares-no-advance : {n : ℕ} {c : Call} → Prepares n c → advanceClock c ≡ lists.none
 prepares-no-advance (lists.Prepares.admit d v) = refl
@@ -221,23 +137,44 @@ prepares-no-advance (lists.Prepares.weigh d v w) = refl
 prepares-no-advance (lists.Prepares.boost on) = refl
 
 -- the latest advance of a list that begins with another call is that of its rest
-latest-rest : {t : ℕ} {e : Clock} (l : Clock) → e ≡ lists.none → orEarlier l e ≡ lists.at t → l ≡ lists.at t
-latest-rest {t} lists.none h x = absurd (none-at t (sym h ∙ x))
-latest-rest (lists.at u) h x = x
+latest-rest : {e : Clock} (l : Clock) → e ≡ lists.none → l ≡ orEarlier l e
+latest-rest lists.none h = sym h
+latest-rest (lists.at u) h = refl
 
 -- ... and of one that begins with an advance is its own, if the rest has none
-latest-first : {t : ℕ} (n : ℕ) (l : Clock) → orEarlier l (lists.at n) ≡ lists.at t → since n l ≡ t
-latest-first n lists.none x = cc
-latest-first n (lists.at u) x = cc
+latest-first : (n : ℕ) (l : Clock) → lists.at (since n l) ≡ orEarlier l (lists.at n)
+latest-first n lists.none = refl
+latest-first n (lists.at u) = refl
 
-pub list-along : {k : Shape} {b : Book} {h : Host} {g : ℕ} (t : ℕ) (before rest : List Call) → PoolList g h (before ++ rest) → AllTyped (before ++ rest)
-    → Kept k b h → Sliced h → Prepared h → latest before ≡ lists.at t → Bounded g t (hostAfter h before)
+-- at a point of a pool list, by the clock of the latest advance
+pub data At (g : ℕ) (h : Host) : Clock → Type 0 where
+  before : Prepared h → At g h lists.none
+  after : {t : ℕ} → Bounded g t h → At g h (lists.at t)
+
+pub list-along : {k : Shape} {b : Book} {h : Host} {g : ℕ} (xs rest : List Call) → PoolList g h (xs ++ rest) → AllTyped (xs ++ rest)
+    → Kept k b h → Prepared h → At g (hostAfter h xs) (latest xs)
 unfolding hostAfter latest
-list-along t [] rest r f K q P e = absurd (none-at t e)
-list-along {h = h} t (c ∷ bs) rest (lists.PoolList.prepares d r) f K q P e =
-    list-along t bs rest r (f .1) (step-goes c K .kept) (still-sliced c K q) (prepare K P (f .0) d) (latest-rest (latest bs) (prepares-no-advance d) e)
-list-along {h = h} t (c ∷ bs) rest (lists.PoolList.refused n r) f K q P e =
-    list-along t bs rest r (f .1) (step-goes c K .kept) (still-sliced c K q) (subst Prepared (sym (refused-same c K n)) P) (latest-rest (latest bs) (refused-no-advance c K n) e)
-list-along {h = h} {g = g} t (c ∷ bs) rest (lists.PoolList.starts {n = n} r) f K q P e =
-    subst (λ (u : ℕ). Bounded g u (hostAfter (Next h (Call.Advance n)) bs)) (latest-first n (latest bs) e)
-    (rest-along bs rest r (f .1) (step-goes (Call.Advance n) K .kept) (still-sliced (Call.Advance n) K q) (start g n (f .0) K q P))
+list-along [] rest r f K P = before P
+list-along {h = h} {g = g} (c ∷ xs) rest (lists.PoolList.prepares d r) f K P =
+    subst (At g (hostAfter (Next h c) xs)) (latest-rest (latest xs) (prepares-no-advance d))
+    (list-along xs rest r (f .1) (step-goes c K .kept) (prepare K P (f .0) d))
+list-along {h = h} {g = g} (c ∷ xs) rest (lists.PoolList.refused n r) f K P =
+    subst (At g (hostAfter (Next h c) xs)) (latest-rest (latest xs) (refused-no-advance c K n))
+    (list-along xs rest r (f .1) (step-goes c K .kept) (subst Prepared (sym (refused-same c K n)) P))
+list-along {h = h} {g = g} (c ∷ xs) rest (lists.PoolList.starts {n = n} r) f K P =
+    subst (At g (hostAfter (Next h (Call.Advance n)) xs)) (latest-first n (latest xs))
+    (after (rest-along xs rest r (f .1) (step-goes (Call.Advance n) K .kept) (start g n (f .0) K P)))
+
+-- where there is one
+pub bounded-at : {g : ℕ} {h : Host} {c : Clock} (t : ℕ) → At g h c → c ≡ lists.at t → Bounded g t h
+bounded-at t (before P) e = absurd (zero-one cc)
+bounded-at {g} {h} t (after {t = u} p) e = let x : u ≡ t = cc in subst (λ (n : ℕ). Bounded g n h) x p
+
+-- at every point no offset is set, and run times are words
+pub record Even (h : Host) : Type 0 where
+  pub plain : Plain (h .scheduler)
+  pub words : Words (h .system)
+
+pub even-at : {g : ℕ} {h : Host} {c : Clock} → At g h c → Even h
+even-at (before P) = record { plain = P .plain; words = P .words }
+even-at (after p) = record { plain = p .plain; words = p .words }

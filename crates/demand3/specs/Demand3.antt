@@ -64,12 +64,12 @@ pub record Demand-3 (k : Shape) (e u q : ℕ) (h : Host) (cs : List Call) : Type
       let w : ℕ → ℕ = λ i. weightAfter e u before (i / 8) (i % 8) in
       (i j : ℕ) → PresentIn k i → PresentIn k j → schedulable ((b i) .state) ≡ true → (b j) .state ≡ Runnable
       → bookService b r i * w j ≤ bookService b r j * w i + (q + g - 1) * w j
-  -- there every offset is 0
-  pub offsets : 1 ≤ q → (g : ℕ) → PoolList g h cs → (before rest : List Call) → cs ≡ before ++ rest
-      → (t : ℕ) → latest before ≡ lists.at t → (i : ℕ) → offsetOf ((hostAfter h before) .scheduler) (i / 8) (i % 8) ≡ 0
+  -- at every point of a pool list, with any slice, every offset is 0
+  pub offsets : (g : ℕ) → PoolList g h cs → (before rest : List Call) → cs ≡ before ++ rest
+      → (i : ℕ) → offsetOf ((hostAfter h before) .scheduler) (i / 8) (i % 8) ≡ 0
   -- so that the service by which vCPUs are ranked is the book's, at every reading
-  pub services : 1 ≤ q → (g : ℕ) → PoolList g h cs → (before rest : List Call) → cs ≡ before ++ rest
-      → (t r : ℕ) → latest before ≡ lists.at t → r < 2 ^ 64 → (i : ℕ) → PresentIn k i
+  pub services : (g : ℕ) → PoolList g h cs → (before rest : List Call) → cs ≡ before ++ rest
+      → (r : ℕ) → r < 2 ^ 64 → (i : ℕ) → PresentIn k i
       → let h′ = hostAfter h before in
       serviceAt (h′ .system) (h′ .scheduler) r i ≡ bookService (bookAfter k h (blankBook k) before) r i
 

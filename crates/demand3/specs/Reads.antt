@@ -1,4 +1,4 @@
--- What each read of a system gives by the book alone, for ids of any size.
+-- What each read of a system gives by the book alone, for ids and readings of any size.
 use Prim.Native.Nat.{ℕ, _+_, _-_, _*_, _^_, _≤_, _<_}
 use mathlib.Core.Bool.{true, false, cond, _&&_}
 use mathlib.Core.Path.{_≡_}
@@ -18,8 +18,10 @@ use Rattle.system.specs.Reads.{occupantOf, vcpuCount, fullAffinity, busyPcpus, 
 use Rattle.verdict.specs.declared.Violation.the-variants.{None}
 use Rattle.verdict.specs.Violations.{firstViolation}
 use Rattle.scan.specs.Scan.{some}
+use Rattle.usage.specs.Usage.{sum, usage}
 use Rattle.demand3.specs.Book.{Line, Book, Shape, holder, occupantBy}
 use Rattle.demand3.specs.Agreement.{Says}
+use Rattle.demand3.specs.Lists.{bookService}
 
 -- the reads of d/v, which is there, on a host of n pCPUs: what its line says
 pub record ReadsLine (s : System) (d v n : ℕ) (l : Line) : Type 0 where
@@ -52,6 +54,9 @@ pub record ReadsAgree (k : Shape) (b : Book) (s : System) : Type 0 where
   -- a vCPU
   pub line : (d v : ℕ) → d < k .domains → v < k .vcpus → ReadsLine s d v (k .pcpus) (b (d * 8 + v))
   pub absent : (d v : ℕ) → (k .domains ≤ d) ⊎ (k .vcpus ≤ v) → ReadsAbsent s d v
+  -- what a domain used up to a reading: the services of its vCPUs there
+  pub used : (d r : ℕ) → d < k .domains → usage s d r ≡ sum (λ v. bookService b r (d * 8 + v)) (k .vcpus)
+  pub unused : (d r : ℕ) → k .domains ≤ d → usage s d r ≡ 0
   -- who holds a pCPU
   pub occupant : (p : ℕ) → p < k .pcpus → occupantOf s p ≡ occupantBy (holder k b p)
   pub no-occupant : (p : ℕ) → k .pcpus ≤ p → occupantOf s p ≡ Idle

@@ -3,3 +3,6 @@ mod Verdicts
 mod NewHost
 mod Snapshots
 mod WakeEdges
+mod Accepting
+mod FoundStates
+pub mod LastSlots

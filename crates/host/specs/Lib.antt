@@ -1,6 +1,7 @@
 pub mod Step
 pub mod Typed
 pub mod StepLaws
+pub mod FoundStates
 pub mod WakeEdges
 pub mod Outcomes
 pub mod Computing

@@ -1,19 +1,14 @@
--- Laws of a step, of every host, damaged or not: what it can be told, that a refusal changes nothing, that one for a vCPU's state
--- tells that state, and which half of the host a call leaves as it was. Assumes nothing.
-use Prim.Native.Nat.{ℕ}
+-- Laws of a step, of every host, damaged or not: what it can be told, that a refusal changes nothing, and which half of the host a
+-- call leaves as it was. Assumes nothing.
 use mathlib.Core.Bool.{Bool, true, false}
-use mathlib.Core.Path.{_≡_, refl, sym, subst, ap₂}
+use mathlib.Core.Path.{_≡_, refl, ap₂}
 use mathlib.Core.List.{[]}
 use Rattle.system.specs.declared.System.{System}
 use Rattle.system.specs.declared.Answer.{Answer}
 use Rattle.system.specs.declared.Answer.the-variants.{Done, Unsound}
-use Rattle.system.specs.declared.MaybeState.{MaybeState}
 use Rattle.system.specs.Answers.{told, SystemOutcome}
-use Rattle.system.specs.Reads.{stateOf}
 use Rattle.verdict.specs.Violations.{invariantsHold}
-use Rattle.changes.specs.Found.{TellsState, done-tells, unsound-tells}
 use Rattle.sched.specs.Answered.{Answered, requested-answered, offline-all-answered}
-use Rattle.sched.specs.Found.{requested-tells, offline-all-tells}
 use Rattle.policy.specs.declared.Scheduler.{Scheduler}
 use Rattle.advance.specs.Advance.{Advance}
 use Rattle.advance.specs.Answered.{AdvanceAnswered, advance-answered}
@@ -63,41 +58,6 @@ step-answered h (Call.SetAffinity d v m) = by-system h (requested-answered _ d v
 step-answered h (Call.SetWeight d v w) = by-policy h _
 step-answered h (Call.SetWakeBoost on) = by-policy h _
 step-answered h (Call.Advance now) = by-advance h (advance-answered (h .system) (h .scheduler) now)
-
--- the state of the vCPU that a call names, as `state_of` reads it before the call; absent where the call names none
-abbrev pub stateNamed : Call → System → MaybeState
-stateNamed (Call.Admit d v) s = stateOf s d v
-stateNamed (Call.Run d v p now) s = stateOf s d v
-stateNamed (Call.Preempt d v now) s = stateOf s d v
-stateNamed (Call.Block d v now) s = stateOf s d v
-stateNamed (Call.Wake d v) s = stateOf s d v
-stateNamed (Call.Offline d v now) s = stateOf s d v
-stateNamed (Call.OfflineAll d now) s = MaybeState.None
-stateNamed (Call.SetAffinity d v m) s = stateOf s d v
-stateNamed (Call.SetWeight d v w) s = stateOf s d v
-stateNamed (Call.SetWakeBoost on) s = MaybeState.None
-stateNamed (Call.Advance now) s = MaybeState.None
-
-either-tells : (m : MaybeState) {n : ℕ} (b : Bool) → (b ≡ true → n ≡ told Done) → (b ≡ false → n ≡ told Unsound) → TellsState m n
-either-tells m true f g = subst (TellsState m) (sym (f refl)) (done-tells m)
-either-tells m false f g = subst (TellsState m) (sym (g refl)) (unsound-tells m)
-
--- told that its vCPU was found in a state, a call did find it there; one that names no vCPU is never told so
-pub step-tells : (h : Host) (c : Call) → TellsState (stateNamed c (h .system)) ((step h c) .number)
-unfolding step
-step-tells h (Call.Admit d v) = requested-tells _ d v _
-step-tells h (Call.Run d v p now) = requested-tells _ d v _
-step-tells h (Call.Preempt d v now) = requested-tells _ d v _
-step-tells h (Call.Block d v now) = requested-tells _ d v _
-step-tells h (Call.Wake d v) = requested-tells _ d v _
-step-tells h (Call.Offline d v now) = requested-tells _ d v _
-step-tells h (Call.OfflineAll d now) = offline-all-tells _ d now
-step-tells h (Call.SetAffinity d v m) = requested-tells _ d v _
-step-tells h (Call.SetWeight d v w) = done-tells _
-step-tells h (Call.SetWakeBoost on) = done-tells _
-step-tells h (Call.Advance now) =
-    let a = advance-answered (h .system) (h .scheduler) now in
-    either-tells MaybeState.None (invariantsHold (h .system)) (a .tells .sound) (a .tells .unsound)
 
 -- a call of the mechanism leaves the policy as it was, one of the policy leaves the system as it was, and neither moves anybody; an advance
 -- may write both

@@ -10,3 +10,4 @@ mod SettingLaws
 mod WeightStores
 mod DefaultLaws
 mod RenewalLaws
+pub mod LastSlots

@@ -23,6 +23,7 @@ use Rattle.host.specs.declared.Host.{Host}
 use Rattle.host.specs.declared.Call.{Call}
 use Rattle.host.specs.Computing.{computing}
 use Rattle.host.specs.Step.{step, hostAfter, freshHost}
+use Rattle.usage.specs.Usage.{sum, usage}
 use Rattle.demand3.specs.Book.{Book, Shape, blankBook, holder, enter, movedAll}
 use Rattle.demand3.specs.Agreement.{PresentIn}
 use Rattle.demand3.specs.Lists.{bookAfter, PoolList, latest, bookService}
@@ -116,7 +117,16 @@ pub lag-figures : (bookService b 20 1 * 512 ≤ bookService b 20 0 * 256 + (10 +
 unfolding computing bookAfter enter movedAll holder latest weightThrough
 lag-figures = (
   holds .lag (omega arith) 10 pool ran rest refl 10 20 refl (omega arith) 1 0 second first refl refl,
-  holds .offsets (omega arith) 10 pool ran rest refl 10 refl 0,
-  holds .services (omega arith) 10 pool ran rest refl 10 20 refl (omega arith) 0 first,
-  holds .services (omega arith) 10 pool ran rest refl 10 20 refl (omega arith) 1 second,
+  holds .offsets 10 pool ran rest refl 0,
+  holds .services 10 pool ran rest refl 20 (omega arith) 0 first,
+  holds .services 10 pool ran rest refl 20 (omega arith) 1 second,
 )
+
+-- what each domain used up to 25: 10 by 0/0 and 15 by 0/1, and nothing by a domain that is not there
+pub usage-figures : (usage s 0 25 ≡ 25) × (usage s 1 25 ≡ 0)
+unfolding computing bookAfter enter movedAll holder sum
+usage-figures =
+    let r = holds .reads ran rest refl in (
+      r .used 0 25 (omega arith),
+      r .unused 1 25 (omega arith),
+    )

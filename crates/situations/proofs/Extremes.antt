@@ -1,17 +1,13 @@
--- What `demand-3` gives at the ends of what it is about: the largest host, the smallest, slice 1, a policy of another shape, every call
--- at its largest numbers, clocks that stand still and clocks that run back, and every call that a pool list may have. A narrower
--- statement would not give these. Assumes nothing.
+-- What `demand-3` is about at its ends: the largest host, the smallest, a policy of another shape, every call at its largest
+-- numbers, clocks that stand still and clocks that run back. A narrower statement would not give these. Assumes nothing.
 use Prim.Native.Nat.{ℕ, _-_, _^_}
 use mathlib.Core.Bool.{true, false}
-use mathlib.Core.Path.{refl}
-use mathlib.Core.List.{List, [], _∷_}
+use mathlib.Core.List.{List, [], _∷_, _++_}
 use native.Mathlib.Omega.{arith}
 use borrow.Author.Needs.{needs}
-use Rattle.system.specs.Shape.{fresh}
 use Rattle.host.specs.declared.Call.{Call}
 use Rattle.host.specs.Step.{freshHost}
-use Rattle.demand3.specs.Lists.{PoolList}
-use Rattle.demand3.specs.Lists as lists
+use Rattle.demand3.specs.Lists.{AllTyped}
 use Rattle.demand3.specs.Demand3.{Demand-3}
 use Rattle.demand3.proofs.Laws.{demand-3}
 
@@ -37,23 +33,21 @@ last-vcpu =
     ∷ Call.Advance (2 ^ 64 - 1) ∷ Call.Advance 0 ∷ Call.Offline 15 7 (2 ^ 64 - 1) ∷ Call.Admit 15 7 ∷ Call.SetWakeBoost true
     ∷ Call.Advance 5 ∷ Call.Advance 5 ∷ Call.OfflineAll 15 (2 ^ 64 - 1) ∷ []
 
--- 16 domains of 8 vCPUs on 64 pCPUs, slice 1
-pub largest : Holds 16 8 64 16 8 1 largest-numbers
-largest =
-    demand-3 16 8 64 16 8 1 (omega arith) (omega arith) (omega arith) largest-numbers
-    (search needs)
+-- lists whose calls fit their types, one after the other
+pub typed-both : (xs ys : List Call) → AllTyped xs → AllTyped ys → AllTyped (xs ++ ys)
+typed-both [] ys f g = g
+typed-both (x ∷ xs) ys f g = (f .0, typed-both xs ys (f .1) g)
 
-pub largest-used : Holds 16 8 64 16 8 1 last-vcpu
-largest-used =
-    demand-3 16 8 64 16 8 1 (omega arith) (omega arith) (omega arith) last-vcpu
-    (search needs)
+abbrev pub every-call : List Call
+every-call = largest-numbers ++ last-vcpu
 
--- a policy of no shape beside the largest system, and the largest policy beside a system of one vCPU; the slice as large as a clock
-pub no-policy : Holds 16 8 64 0 0 (2 ^ 64 - 1) last-vcpu
-no-policy =
-    demand-3 16 8 64 0 0 (2 ^ 64 - 1) (omega arith) (omega arith) (omega arith) last-vcpu
-    (search needs)
+-- 16 domains of 8 vCPUs on 64 pCPUs, with a policy of any shape and any slice
+pub largest : (e u q : ℕ) → Holds 16 8 64 e u q every-call
+largest e u q =
+    demand-3 16 8 64 e u q (omega arith) (omega arith) (omega arith) every-call
+    (typed-both largest-numbers last-vcpu (search needs) (search needs))
 
+-- the largest policy beside a system of one vCPU
 pub larger-policy : Holds 1 1 1 16 8 1 largest-numbers
 larger-policy =
     demand-3 1 1 1 16 8 1 (omega arith) (omega arith) (omega arith) largest-numbers
@@ -63,29 +57,4 @@ larger-policy =
 pub nothing : Holds 0 0 0 0 0 0 largest-numbers
 nothing =
     demand-3 0 0 0 0 0 0 (omega arith) (omega arith) (omega arith) largest-numbers
-    (search needs)
-
--- a pool list with every call that one may have, at the largest clocks, 7 apart, once at an unchanged clock; what is refused stands in
--- `PoolExamples`
-abbrev pub every-pool-call : List Call
-every-pool-call =
-    Call.SetAffinity 15 7 (2 ^ 64 - 1) ∷ Call.SetWeight 15 7 (2 ^ 32 - 1) ∷ Call.SetWakeBoost false ∷ Call.Admit 15 7
-    ∷ Call.Block 15 7 (2 ^ 64 - 1) ∷ Call.Wake 15 7 ∷ Call.Offline 15 7 0 ∷ Call.OfflineAll 15 (2 ^ 64 - 1) ∷ Call.Admit 15 7
-    ∷ Call.Advance (2 ^ 64 - 8) ∷ Call.Advance (2 ^ 64 - 8) ∷ Call.Advance (2 ^ 64 - 1) ∷ Call.Block 15 7 0 ∷ Call.SetWakeBoost true
-    ∷ Call.Offline 15 7 (2 ^ 64 - 1) ∷ Call.OfflineAll 15 0 ∷ []
-
-pub pool-calls : PoolList 7 (freshHost 16 8 64 0 0 1) every-pool-call
-unfolding fresh
-pool-calls =
-    lists.prepares (lists.mask 15 7 (2 ^ 64 - 1) refl) (lists.prepares (lists.weigh 15 7 (2 ^ 32 - 1)) (lists.prepares (lists.boost false)
-    (lists.prepares (lists.admit 15 7) (lists.prepares (lists.block 15 7 (2 ^ 64 - 1)) (lists.prepares (lists.wake 15 7)
-    (lists.prepares (lists.offline 15 7 0) (lists.prepares (lists.offline-all 15 (2 ^ 64 - 1)) (lists.prepares (lists.admit 15 7)
-    (lists.starts (lists.advances {t = 2 ^ 64 - 8} {n = 2 ^ 64 - 8} (omega arith) (omega arith)
-    (lists.advances {t = 2 ^ 64 - 8} {n = 2 ^ 64 - 1} (omega arith) (omega arith)
-    (lists.departs (lists.block 15 7 0) (lists.boosts (lists.departs (lists.offline 15 7 (2 ^ 64 - 1))
-    (lists.departs (lists.offline-all 15 0) lists.done)))))))))))))))
-
-pub largest-pool : Holds 16 8 64 0 0 1 every-pool-call
-largest-pool =
-    demand-3 16 8 64 0 0 1 (omega arith) (omega arith) (omega arith) every-pool-call
     (search needs)

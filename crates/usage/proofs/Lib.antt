@@ -2,3 +2,4 @@ pub mod Laws
 mod Bounds
 mod RecordTimes
 mod AtItsClock
+pub mod LastDomain

@@ -2,3 +2,4 @@ pub mod Laws
 mod Opened
 mod All
 mod Sizes
+mod FileFigures

@@ -4,7 +4,7 @@ ghost use mathlib.Core.Path.{_≡_};
 ghost use Prim.Native.Nat.{_+_, _*_, _^_, _≤_, _<_};
 ghost use lib.ListN.{length};
 ghost use Rattle.big_endian.specs.Numbers.{number};
-ghost use Rattle.service.specs.Service.{value};
+ghost use Rattle.service.specs.Service.{value, held};
 ghost use Rattle.system.specs.Answers.{told};
 ghost use Rattle.usage_layout.specs.Reading.{all, opens, lineRight, weighed, shaped, vcpusEach, countOf};
 ghost use Rattle.usage_parse.specs.Domains.{answerAt, stretchAt, placeAt, vcpusOf, weightAt, serviceAt};
@@ -210,6 +210,7 @@ pub fn weight_at(body: &[u8], vcpu: usize) -> u32
 
 /// A vCPU's service; 0 for one that the body has not.
 pub fn service_at(body: &[u8], vcpu: usize) -> Service
+    ensures { λ r. ⌜ r ≡ held (serviceAt (now (body .entry)) vcpu) ⌝ }
     ensures { λ r. ⌜ value r ≡ serviceAt (now (body .entry)) vcpu ⌝ }
 {
     if body.len() / 20 <= vcpu {

@@ -19,7 +19,7 @@ returns c =
     let start = weight .before .before .before in
     let a = start .args in
     let text = made .usage-line .ensures
-    ∙ ap₂ (λ w s. lineOf (usageLine (a .domain) (a .v) w s)) (weight .weight-at .ensures) (service .service-at .ensures) in
+    ∙ ap₂ (λ w s. lineOf (usageLine (a .domain) (a .v) w s)) (weight .weight-at .ensures) (service .service-at .ensures .1) in
     line-placed (a .out .now) (vcpuLine (a .domain) (a .body .now) (a .v)) (a .at) 103 (made .usage-line .result) text
     (usage-line-short _ _ _ _) (omega arith) (start .pre) (put .append .ensures .0) (put .append .ensures .1)
 

@@ -1,0 +1,43 @@
+mod Loops
+mod Standing
+mod Next
+mod Accounting
+mod Verdict
+mod Calls
+mod Policy
+mod Advance
+mod ReadLaws
+mod Steps
+mod Leaves
+mod Handed
+mod InPlace
+mod ByIds
+mod Notes
+mod Entries
+mod CallLists
+mod Pools
+mod Agreement
+mod AtPoints
+mod Hypotheses
+pub mod Demand3
+mod Turns
+mod LastPcpu
+pub mod DatedMoves
+mod NumberLaws
+mod LineLaws
+mod TraceLaws
+mod ScriptLaws
+mod UsageFileLaws
+mod UsageAccepted
+mod UsageReadLaws
+mod UsageTextLaws
+mod UsageExact
+mod DrawLaws
+mod LoadLaws
+mod SituationHosts
+mod Situations
+mod PoolExample
+mod Ends
+mod PoolEnds
+mod MoveEnds
+pub mod Laws

@@ -1,0 +1,8 @@
+-- `promised::of_sched::admit` meets its contract. Assumes nothing.
+use borrow.Author.Needs.{needs}
+use Rattle.page.proofs.Laws.{admit-is, hands-system}
+use Rattle.promised.proofs.of_sched.admit.Statement.{statement}
+use Rattle.promised.proofs.of_sched.admit.Tie as tie
+
+pub admit-spec : {M : Type 1} → statement M
+admit-spec = tie.close (tie.spec (λ c κs. search needs) (λ c. hands-system _ _ _ (c .admit .ensures) (admit-is _ _ _)))

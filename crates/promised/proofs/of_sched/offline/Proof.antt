@@ -1,0 +1,11 @@
+-- `promised::of_sched::offline` meets its contract. Assumes nothing.
+use borrow.Author.Needs.{needs}
+use Rattle.page.proofs.Laws.{offline-is, hands-system}
+use Rattle.promised.proofs.of_sched.offline.Statement.{statement}
+use Rattle.promised.proofs.of_sched.offline.Tie as tie
+
+returns : tie.Need-returns
+returns c = hands-system _ _ _ (c .offline .ensures) (offline-is _ _ _ _)
+
+pub offline-spec : {M : Type 1} → statement M
+offline-spec = tie.close (tie.spec (λ c κs. search needs) returns)
