@@ -8,6 +8,7 @@ ghost use mathlib.Core.Bool.{true, _||_};
 ghost use Prim.Native.Nat.{_+_, _≤_};
 ghost use lib.Dec.{eqb};
 ghost use lib.ListN.{length};
+ghost use Rattle.io.specs.Counts.{Counts};
 ghost use Rattle.system.specs.Shape.{withinSizes};
 ghost use Rattle.host.specs.Outcomes.{hostOutcome};
 ghost use Rattle.script.specs.Script.{carried};
@@ -215,13 +216,34 @@ fn examined(s: Script, bytes: &[u8], out: &mut [u8]) -> Written
 
 // ---- the program
 
-fn turn(s: Script, record: &[u8], output: &mut [u8]) -> Script
+// The script after a record, and whether all that is said of it was written.
+struct After {
+    script: Script,
+    put: bool,
+}
+
+fn turn(s: Script, record: &[u8], output: &mut [u8]) -> After
     requires { ⌜ 929 ≤ length (now output) ⌝ }
 {
     let w = examined(s, record, output);
+    let script = w.script;
     let written = w.written;
-    io::write_all(libc::STDOUT_FILENO, &output[..written]);
-    w.script
+    let put = streams::put(
+        &output[..written],
+        b"examine: standard output takes no more\n",
+    );
+    After { script, put }
+}
+
+// How many bytes of a record there are; an error is said.
+fn read(input: &mut [u8]) -> usize
+    ensures { λ r. ⌜ Counts r (now (input .exit)) ⌝ }
+{
+    let got = streams::read(input);
+    if got.failed {
+        streams::say(b"examine: standard input cannot be read\n");
+    }
+    got.bytes
 }
 
 fn main() {
@@ -231,11 +253,15 @@ fn main() {
     // a proved loop has to end, and nothing says that the input does
     let mut turns = u64::MAX;
     while turns > 0 {
-        let got = io::read_full(libc::STDIN_FILENO, &mut input);
-        if got == 0 {
+        let bytes = read(&mut input);
+        if bytes == 0 {
             return;
         }
-        s = turn(s, &input[..got], &mut output);
+        let turned = turn(s, &input[..bytes], &mut output);
+        if !turned.put {
+            return;
+        }
+        s = turned.script;
         turns -= 1;
     }
 }

@@ -4,6 +4,7 @@
 
 ghost use Prim.Native.Nat.{_<_};
 use system::Answer;
+use system::MAX_DOMAINS;
 
 // The longest file that is looked at; the longest that is accepted has 2662 bytes.
 const ROOM: usize = 4096;
@@ -13,19 +14,12 @@ fn put(n: u64, end: &[u8]) {
     io::write_all(libc::STDOUT_FILENO, end);
 }
 
-fn put_body(file: &[u8], domain: usize) {
-    let text = usage_text::body_text(domain as u64, usage_read::body_of(file, domain));
+// By one reader, what it gives of each domain.
+fn put_bodies(file: &[u8]) {
+    let text = usage_read::text_of(file, MAX_DOMAINS);
     let bytes = text.bytes;
     let n = text.length;
     io::write_all(libc::STDOUT_FILENO, &bytes[..n]);
-}
-
-fn put_bodies(file: &[u8], count: usize) {
-    let mut d: usize = 0;
-    while d < count {
-        put_body(file, d);
-        d += 1;
-    }
 }
 
 fn examine(file: &[u8], domain: usize) {
@@ -38,9 +32,7 @@ fn examine(file: &[u8], domain: usize) {
     }
     put(usage_read::answer_of(file, domain), b" ");
     put(usage_read::body_of(file, domain).len() as u64, b"\n");
-    if count < usage_parse::REFUSED {
-        put_bodies(file, count);
-    }
+    put_bodies(file);
 }
 
 fn wide(b: u8) -> u64

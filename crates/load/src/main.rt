@@ -16,27 +16,36 @@ struct Said {
     good: bool,
 }
 
-// All of them, and whether they are numbers and as many as are asked for.
+// All of them, and which is the first that is no number, from 1 on; 0 where all are.
 struct Arguments {
     numbers: [u64; NUMBERS],
-    good: bool,
+    bad: usize,
 }
 
 // ---- words
 
-fn complain(words: &[u8]) {
-    io::write_all(libc::STDERR_FILENO, words);
+fn misused() {
+    streams::say(b"usage: load SEED DOMAINS VCPUS PCPUS SLICE COUNT > SCRIPT\n");
 }
 
-fn misused() {
-    complain(b"usage: load SEED DOMAINS VCPUS PCPUS SLICE COUNT > SCRIPT\n");
+// Argument i is not what the form has there.
+fn misused_at(i: usize) {
+    misused();
+    match i {
+        1 => streams::say(b"load: SEED is not a number below 2^64\n"),
+        2 => streams::say(b"load: DOMAINS is not a number below 2^64\n"),
+        3 => streams::say(b"load: VCPUS is not a number below 2^64\n"),
+        4 => streams::say(b"load: PCPUS is not a number below 2^64\n"),
+        5 => streams::say(b"load: SLICE is not a number below 2^64\n"),
+        _ => streams::say(b"load: COUNT is not a number below 2^32\n"),
+    }
 }
 
 fn refused(answer: Answer) {
     if system::number_of(answer) == system::number_of(Answer::BadSeed) {
-        complain(b"15 BadSeed: a load's seed is not zero\n");
+        streams::say(b"15 BadSeed: a load's seed is zero\n");
     } else {
-        complain(b"7 TooLarge: a host has at most 16 domains, 8 vCPUs in each, 64 pCPUs\n");
+        streams::say(b"7 TooLarge: a host has at most 16 domains, 8 vCPUs in each, 64 pCPUs\n");
     }
 }
 
@@ -55,28 +64,32 @@ fn argument(i: usize) -> Said {
     }
 }
 
+// The first bad argument, where `bad` is that of those before i.
+fn first_bad(bad: usize, i: usize, good: bool) -> usize {
+    if good {
+        return bad;
+    }
+    if bad == 0 { i } else { bad }
+}
+
 fn asked() -> Arguments {
     let mut numbers = [0u64; NUMBERS];
-    let mut good = os::arg_count() == NUMBERS + 1;
+    let mut bad: usize = 0;
     let mut i: usize = 0;
     while i < NUMBERS {
         let said = argument(i + 1);
         numbers[i] = said.number;
-        good = good & said.good;
+        bad = first_bad(bad, i + 1, said.good);
         i += 1;
     }
-    Arguments { numbers, good }
+    Arguments { numbers, bad }
 }
 
 // ---- the script
 
 // Whether all of it was written.
 fn put(bytes: &[u8]) -> bool {
-    let written = io::write_all(libc::STDOUT_FILENO, bytes);
-    if !written {
-        complain(b"load: standard output takes no more\n");
-    }
-    written
+    streams::put(bytes, b"load: standard output takes no more\n")
 }
 
 // Writes the records of the load, 3000 at a time.
@@ -104,15 +117,19 @@ fn make(seed: u64, shape: Shape, count: u32) {
 }
 
 fn main() {
-    let asked = asked();
-    if !asked.good {
+    if os::arg_count() != NUMBERS + 1 {
         misused();
+        return;
+    }
+    let asked = asked();
+    if asked.bad > 0 {
+        misused_at(asked.bad);
         return;
     }
     let numbers = asked.numbers;
     let count = numbers[5];
     if count > 0xFFFF_FFFF {
-        misused();
+        misused_at(NUMBERS);
         return;
     }
     let shape = Shape {

@@ -1,31 +1,32 @@
 //! Reads a script on standard input and writes what each record is told, a line for each.
 
+use play::Turn;
 use script::Script;
-use script::Taken;
 
-// The records of one stretch: their bytes are read at once, and their lines written at once.
-const STRETCH: usize = 1000;
-
-fn stretch(s: Script, input: &mut [u8], output: &mut [u8]) -> Taken {
-    let got = io::read_full(libc::STDIN_FILENO, input);
-    let taken = script::replay(s, &input[..got], output, false);
-    let written = taken.written;
-    io::write_all(libc::STDOUT_FILENO, &output[..written]);
-    taken
+fn turn(s: Script, input: &mut [u8], output: &mut [u8]) -> Turn {
+    play::stretch(
+        s,
+        input,
+        output,
+        false,
+        b"replay: standard input cannot be read\n",
+        b"replay: standard output takes no more\n",
+    )
 }
 
 fn main() {
+    // the bytes of 1000 records, and room for their text
     let mut input = [0u8; 20000];
     let mut output = [0u8; 63000];
     let mut s = Script::new();
     // a proved loop has to end, and nothing says that the input does
     let mut turns = u64::MAX;
     while turns > 0 {
-        let taken = stretch(s, &mut input, &mut output);
-        s = taken.script;
-        if taken.records < STRETCH {
+        let turned = turn(s, &mut input, &mut output);
+        if !turned.more {
             return;
         }
+        s = turned.script;
         turns -= 1;
     }
 }

@@ -1,7 +1,9 @@
 pub mod HostText
 pub mod Script
+pub mod NoCall
 pub mod Internal
 pub mod Laws
+pub mod NoCallLaws
 pub mod Computing
 pub mod Example
 pub mod Rows

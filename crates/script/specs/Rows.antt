@@ -1,6 +1,6 @@
 -- What scripts are told, as the requirements say, and the whole host as `trace` writes it. Assumes nothing.
-use Prim.Native.Nat.{ℕ}
-use mathlib.Core.Bool.{true, false}
+use Prim.Native.Nat.{ℕ, zero, suc}
+use mathlib.Core.Bool.{Bool, true, false, cond}
 use mathlib.Core.Path.{refl}
 use mathlib.Core.List.{List, [], _∷_, _++_}
 use lib.ListN.{take}
@@ -9,6 +9,7 @@ use Rattle.records.specs.Bytes.{bytesOf}
 use Rattle.text.specs.Ascii.{ascii}
 use Rattle.script.specs.Computing.{replaying}
 use Rattle.script.specs.HostText.{hostText}
+use Rattle.script.specs.NoCall.{builtAt, noCallAt}
 use Rattle.script.specs.Script.{begun, scriptAfter, text, recordsIn}
 
 -- the bytes of some records
@@ -63,6 +64,30 @@ told =
 pub told-due : AllDue told
 unfolding replaying
 told-due = refl
+
+-- of the first n records, 1 for one that is no call
+abbrev flags : Bool → List ℕ → ℕ → List ℕ
+flags b bs zero = []
+flags b bs (suc n) = flags b bs n ++ (cond (noCallAt b bs n) 1 0 ∷ [])
+
+abbrev pub noCalls : List Row
+noCalls =
+    -- kinds above 10, among calls of any other answer: 17 domains are told 7, a second admit 4
+    rows (flags false (all (build 1 1 1 ∷ ofKind 11 ∷ admit ∷ ofKind 65535 ∷ admit ∷ build 17 1 1 ∷ admit ∷ [])) 7) (0 ∷ 1 ∷ 0 ∷ 1 ∷ 0 ∷ 0 ∷ 0 ∷ [])
+    -- cut off, by 19 bytes or 1
+    ∷ rows (flags false (build 1 1 1 ++ take 1 admit) 2) (0 ∷ 1 ∷ [])
+    ∷ rows (flags false (build 1 1 1 ++ take 19 admit) 2) (0 ∷ 1 ∷ [])
+    -- before any host, which a build that is refused does not make; and where one was built before
+    ∷ rows (flags false (all (admit ∷ build 17 1 1 ∷ ofKind 9 ∷ build 1 1 1 ∷ ofKind 10 ∷ [])) 5) (1 ∷ 0 ∷ 1 ∷ 0 ∷ 0 ∷ [])
+    ∷ rows (flags true (all (admit ∷ ofKind 10 ∷ ofKind 11 ∷ [])) 3) (0 ∷ 0 ∷ 1 ∷ [])
+    -- a script in words, and a usage file
+    ∷ rows (flags false (ascii "build 1 domain 1 vcpu 1 pcpu slice 10\n") 2) (1 ∷ 1 ∷ [])
+    ∷ rows (flags false (ascii "USGE" ++ (0 ∷ 0 ∷ [])) 1) (1 ∷ [])
+    ∷ []
+
+pub no-calls-due : AllDue noCalls
+unfolding replaying builtAt
+no-calls-due = refl
 
 -- 0/0 is Offline; 0/1 waits, with mask 2 and weight 7; 0/2 runs on pCPU 1 since 100; 0/3 ran from 3 to 8 and is blocked
 abbrev four : List ℕ

@@ -3,7 +3,8 @@
 
 ghost use mathlib.Core.Path.{_≡_};
 ghost use mathlib.Core.Bool.{_&&_};
-ghost use Prim.Native.Nat.{_+_, _*_, _/_, _≤_, _<_};
+ghost use mathlib.Core.Bool.{true, false};
+ghost use Prim.Native.Nat.{ℕ, _+_, _*_, _/_, _≤_, _<_};
 ghost use lib.ListN.{length, drop};
 ghost use Rattle.system.specs.Answers.{told};
 ghost use Rattle.system.specs.Slots.{domains, pcpus};
@@ -12,7 +13,8 @@ ghost use Rattle.records.specs.Records.{planOf};
 ghost use Rattle.text.specs.Lines.{answerLine};
 ghost use Rattle.text.specs.Places.{Placed};
 ghost use Rattle.script.specs.HostText.{stateNumber, pcpuNumber, clockNumber, slotRow, pcpuRow, vcpuRows, pcpuRows, hostText};
-ghost use Rattle.script.specs.Script.{begun, carried, builtAfter, room, taken, takenOf, Replayed};
+ghost use Rattle.script.specs.Script.{begun, carried, builtAfter, recordsIn, room, taken, takenOf, Replayed};
+ghost use Rattle.script.specs.NoCall.{isNoCall, noCallAt};
 ghost use Rattle.script.specs.Internal.{hostOf, taskOfCall, taskOf};
 use changes::After;
 use changes::Request;
@@ -443,4 +445,39 @@ pub fn replay(script: Script, bytes: &[u8], out: &mut [u8], states: bool) -> Tak
 {
     let n = least(records_in(bytes.len()), out.len() / room_of(states));
     stepped(script, bytes, out, states, n)
+}
+
+// ---- records that are no call
+
+fn is_no_call(plan: Plan) -> bool
+    ensures { λ r. ⌜ r ≡ isNoCall plan ⌝ }
+{
+    match plan {
+        Plan::Refuse(answer) => {
+            system::number_of(answer) == system::number_of(Answer::BadScript)
+        }
+        Plan::Build(_) => false,
+        Plan::Call(_) => false,
+    }
+}
+
+/// The first of these records that is told 9, counted from 0: it is of no kind, or cut off, or comes before any host is built. As
+/// many as there are where none is.
+pub fn first_no_call(built: bool, bytes: &[u8]) -> usize
+    ensures within { λ r. ⌜ r ≤ recordsIn (now (bytes .entry)) ⌝ }
+    ensures before { λ r. ⌜ ((k : ℕ) → k < r → noCallAt built (now (bytes .entry)) k ≡ false) ⌝ }
+    ensures found { λ r. ⌜ (r < recordsIn (now (bytes .entry)) → noCallAt built (now (bytes .entry)) r ≡ true) ⌝ }
+{
+    let n = records_in(bytes.len());
+    let mut there = built;
+    let mut i: usize = 0;
+    while i < n {
+        let plan = plan_at(there, bytes, i);
+        if is_no_call(plan) {
+            return i;
+        }
+        there = built_after(there, plan);
+        i += 1;
+    }
+    n
 }

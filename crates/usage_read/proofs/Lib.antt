@@ -1,2 +1,3 @@
+mod Apart
 mod Opened
 mod Readers

@@ -4,10 +4,14 @@
 ghost use mathlib.Core.Path.{_≡_};
 ghost use Rattle.system.specs.Answers.{told};
 ghost use Rattle.usage_layout.specs.Reading.{countOf};
+ghost use Rattle.io.specs.Counts.{Counts};
 ghost use Rattle.usage_parse.specs.Domains.{answerAt, stretchAt, placeAt, answerOf, stretchOf, placeOf};
+ghost use Rattle.usage_text.specs.FileText.{fileLines, linesOf, fileTextOf};
 use usage_parse::answer_at;
 use usage_parse::body_at;
 use usage_parse::domain_count;
+use usage_text::FileText;
+use usage_text::file_text;
 
 /// A file, and its domain count; one above 16 stands for a file that is not accepted.
 pub struct Reader<'a> {
@@ -39,6 +43,13 @@ pub fn body<'a>(r: Reader<'a>, domain: usize) -> &'a [u8]
     body_at(r.file, r.count, domain)
 }
 
+/// The lines of its first n domains, of at most sixteen, each from that domain's body.
+pub fn text<'a>(r: Reader<'a>, n: usize) -> FileText
+    ensures { λ t. ⌜ (t ≡ fileTextOf (r .entry .count) (fileLines (now (r .entry .file)) (r .entry .count) n)) × Counts (t .length) (t .bytes) ⌝ }
+{
+    file_text(r.file, r.count, n)
+}
+
 /// What a reader of the file tells of a domain.
 pub fn answer_of<'a>(file: &'a [u8], domain: usize) -> u64
     ensures { λ n. ⌜ n ≡ told (answerOf (now (file .entry)) domain) ⌝ }
@@ -51,4 +62,11 @@ pub fn body_of<'a>(file: &'a [u8], domain: usize) -> &'a [u8]
     ensures { λ s. ⌜ (now s ≡ stretchOf (now (file .entry)) domain) × (s .ptr ≡ placeOf (file .entry) domain) ⌝ }
 {
     body(open(file), domain)
+}
+
+/// The lines of the first n domains that a reader of the file gives: it is opened once.
+pub fn text_of<'a>(file: &'a [u8], n: usize) -> FileText
+    ensures { λ t. ⌜ (t ≡ fileTextOf (countOf (now (file .entry))) (linesOf (now (file .entry)) n)) × Counts (t .length) (t .bytes) ⌝ }
+{
+    text(open(file), n)
 }

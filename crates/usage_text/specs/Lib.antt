@@ -1,2 +1,3 @@
 pub mod BodyText
+pub mod FileText
 pub mod Rows

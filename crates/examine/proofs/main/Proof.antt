@@ -18,9 +18,10 @@ loop-holds c = (sym (length-replicate {A = ℕ} 20 0), sym (length-replicate {A 
 
 loop-again : tie.Need-loop-again Inv-loop μ-loop
 loop-again c =
-    let read = c .before .before .before .before .before .before in
+    let turned = c .before .before .before .before in
+    let read = turned .before .before .before .before .before in
     let l = read .before .before .before in
-    (l .loop .inv .0 ∙ sym (read .read-full .kept .1 .0), l .loop .inv .1 ∙ sym (c .before .turn .kept .1 .1 .0))
+    (l .loop .inv .0 ∙ sym (read .read .kept .0), l .loop .inv .1 ∙ sym (turned .turn .kept .1 .1 .0))
 
 pub main-spec : {M : Type 1} → statement M
 main-spec =
@@ -33,10 +34,11 @@ main-spec =
     (λ c. c .before .before .loop .inv .0)
     (λ c κs. search needs)
     (λ c. search needs)
-    (λ c. c .before .before .read-full .ensures .0)
-    (λ c. c .before .before .before .read-full .ensures .1)
+    (λ c. c .before .before .read .ensures .0)
+    (λ c. c .before .before .before .read .ensures .1)
     (λ c. c .before .before .before .before .before .before .before .loop .inv .1)
     (λ c κs. omega (arith, c .before .before .before .before .before .before .before .loop .inv .1))
+    (λ c. search needs)
     (λ c. omega arith)
     (λ c. omega arith)
     loop-again

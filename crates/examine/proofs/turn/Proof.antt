@@ -6,8 +6,8 @@ use Rattle.examine.proofs.turn.Statement.{statement}
 use Rattle.examine.proofs.turn.Tie as tie
 
 -- what was written is a part of the output
-slice-aggregate-write-all : tie.Need-slice-aggregate-write-all
-slice-aggregate-write-all c = sym (length-take-le _ _ (c .before .before .before .examined .ensures .whole))
+slice-aggregate-put : tie.Need-slice-aggregate-put
+slice-aggregate-put c = sym (length-take-le _ _ (c .before .before .before .before .examined .ensures .whole))
 
 pub turn-spec : {M : Type 1} → statement M
 turn-spec =
@@ -15,7 +15,8 @@ turn-spec =
     (tie.spec
     (λ c κs. search needs)
     (λ c. search needs)
-    slice-aggregate-write-all
+    slice-aggregate-put
+    (λ c. search needs)
     (λ c κs. search needs)
     (λ c. search needs)
     (λ c. search needs))

@@ -8,10 +8,10 @@ use Rattle.load.proofs.asked.Statement.{statement}
 use Rattle.load.proofs.asked.Tie as tie
 
 abbrev Inv-loop : tie.InvT-loop
-Inv-loop numbers₀ good₀ i₀ numbers good i = (i ≤ 6) × (6 ≡ length numbers)
+Inv-loop numbers₀ bad₀ i₀ numbers bad i = (i ≤ 6) × (6 ≡ length numbers)
 
 abbrev μ-loop : tie.MeasureT-loop
-μ-loop numbers₀ good₀ i₀ numbers good i = 6 - i
+μ-loop numbers₀ bad₀ i₀ numbers bad i = 6 - i
 
 loop-again : tie.Need-loop-again Inv-loop μ-loop
 loop-again c =
@@ -24,13 +24,13 @@ asked-spec =
     (tie.spec
     Inv-loop
     μ-loop
-    (λ c κs. search needs)
-    (λ c. search needs)
     (λ c. (omega arith, sym (length-replicate {A = ℕ} 6 0)))
     (λ c. search needs)
     (λ c κs. search needs)
     (λ c. search needs)
     (λ c. search needs)
+    (λ c. search needs)
+    (λ c κs. search needs)
     (λ c. search needs)
     (λ c. search needs)
     loop-again

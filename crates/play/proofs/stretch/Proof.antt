@@ -1,13 +1,13 @@
--- `trace::stretch` is safe and ends. Assumes nothing.
+-- `play::stretch` is safe and ends. Assumes nothing.
 use mathlib.Core.Path.{sym}
 use lib.Seq.{length-take-le}
 use borrow.Author.Needs.{needs}
-use Rattle.trace.proofs.stretch.Statement.{statement}
-use Rattle.trace.proofs.stretch.Tie as tie
+use Rattle.play.proofs.stretch.Statement.{statement}
+use Rattle.play.proofs.stretch.Tie as tie
 
 -- what was written is a part of the output
-slice-aggregate-write-all : tie.Need-slice-aggregate-write-all
-slice-aggregate-write-all c = sym (length-take-le _ _ (c .before .before .before .replay .ensures .whole))
+slice-aggregate-put : tie.Need-slice-aggregate-put
+slice-aggregate-put c = sym (length-take-le _ _ (c .before .before .before .before .replay .ensures .whole))
 
 pub stretch-spec : {M : Type 1} → statement M
 stretch-spec =
@@ -18,7 +18,8 @@ stretch-spec =
     (λ c. search needs)
     (λ c κs. search needs)
     (λ c. search needs)
-    slice-aggregate-write-all
+    slice-aggregate-put
+    (λ c κs. search needs)
     (λ c κs. search needs)
     (λ c. search needs)
     (λ c. search needs)
