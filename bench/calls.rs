@@ -1,4 +1,4 @@
-//! The same calls as the program `bench_calls`, on upstream's mechanism.
+//! The same calls as the program `bench`, on upstream's mechanism.
 extern crate alloc;
 mod sched;
 
@@ -17,9 +17,9 @@ fn full_host() -> sched::System {
 }
 
 fn main() {
-    let mut bytes = [0u8; 4];
-    std::io::stdin().read_exact(&mut bytes).unwrap();
-    let rounds = u64::from(u32::from_be_bytes(bytes));
+    let mut b = [0u8; 8];
+    std::io::stdin().read_exact(&mut b).unwrap();
+    let rounds = u64::from(u32::from_be_bytes([b[1], b[2], b[3], b[4]]));
     let mut s = std::hint::black_box(full_host());
     let mut done = 0u64;
     for k in 0..rounds {

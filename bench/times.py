@@ -3,8 +3,8 @@
 
   bench/times.py PORT UPSTREAM     two folders
 
-PORT has bench_calls, bench_advance, bench_usage, load and replay; UPSTREAM has calls, advances, reference, and usage and
-load, which upstream has not: they are written here in plain Rust. bench/run makes them all.
+PORT has bench, load and replay; UPSTREAM has calls, advances, reference, and usage and load, which upstream has not: they
+are written here in plain Rust. bench/run makes them all.
 What the port writes is compared with what upstream gives. A script is timed on upstream alone, `reference plain`, whose
 placements are always on the lowest pCPU; `reference replay`, which is not timed, says what the port has to write.
 """
@@ -84,19 +84,25 @@ def scripts(port):
     yield "refused run", repeated(record(RUN, *last, 0, 5), record(RUN, *last, 64, 5))
 
 
+def order(kind, rounds, shape=(0, 0, 0)):
+    """What `bench` reads."""
+    return struct.pack(">BI3B", kind, rounds, *shape)
+
+
 def timed(port, upstream):
     """All that is timed: name, the two commands and the one that gives the answers, what they read, how many calls that
     makes."""
+
+    def benched(program):
+        return [port / "bench"], [upstream / program], [upstream / program]
+
     rounds = 200_000
-    calls = [port / "bench_calls"], [upstream / "calls"], [upstream / "calls"]
-    yield "transition, 128 vCPUs on 64 pCPUs", calls, struct.pack(">I", rounds), 4 * rounds
-    advances = [port / "bench_advance"], [upstream / "advances"], [upstream / "advances"]
-    for times, (domains, vcpus, pcpus) in ADVANCES:
-        name = f"advance, {domains * vcpus} vCPUs on {pcpus} pCPU{'s' * (pcpus > 1)}"
-        yield name, advances, struct.pack(">IBBB", times, domains, vcpus, pcpus), times
-    usage = [port / "bench_usage"], [upstream / "usage"], [upstream / "usage"]
-    for kind, name in enumerate(["usage file written", "usage file opened"]):
-        yield f"{name}, 128 vCPUs", usage, struct.pack(">IB", USAGE_FILES, kind), USAGE_FILES
+    yield "transition, 128 vCPUs on 64 pCPUs", benched("calls"), order(0, rounds), 4 * rounds
+    for times, shape in ADVANCES:
+        name = f"advance, {shape[0] * shape[1]} vCPUs on {shape[2]} pCPU{'s' * (shape[2] > 1)}"
+        yield name, benched("advances"), order(1, times, shape), times
+    for kind, name in [(2, "usage file written"), (3, "usage file opened")]:
+        yield f"{name}, 128 vCPUs", benched("usage"), order(kind, USAGE_FILES), USAGE_FILES
     loads = [[folder / "load", *load(FULL)] for folder in (port, upstream, upstream)]
     yield "load made, 128 vCPUs on 64 pCPUs", loads, b"", LOAD_CALLS
     reference = upstream / "reference"

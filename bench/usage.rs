@@ -1,4 +1,4 @@
-//! The same usage files as the program `bench_usage`, in plain Rust: a host's numbers in plain arrays.
+//! The same usage files as the program `bench`, in plain Rust: a host's numbers in plain arrays.
 use std::hint::black_box;
 use std::io::Read;
 
@@ -66,13 +66,13 @@ fn open(file: &[u8]) -> Option<usize> {
 }
 
 fn main() {
-    let mut b = [0u8; 5];
+    let mut b = [0u8; 8];
     std::io::stdin().read_exact(&mut b).unwrap();
-    let rounds = u64::from(u32::from_be_bytes([b[0], b[1], b[2], b[3]]));
+    let rounds = u64::from(u32::from_be_bytes([b[1], b[2], b[3], b[4]]));
     let (running, runtime, dispatched_at, weight) = ([true; 128], [7; 128], [0; 128], [256; 128]);
     let host = Host { domains: 16, vcpus: 8, running, runtime, dispatched_at, weight };
     let mut total = 0u64;
-    if b[4] == 0 {
+    if b[0] == 2 {
         for k in 0..rounds {
             let (bytes, _) = black_box(write(black_box(&host), k));
             total += u64::from(bytes[121]) + u64::from(bytes[2661]);

@@ -7,7 +7,7 @@ use native.Mathlib.Omega.{arith}
 use native.Mathlib.Decide.{decLt}
 use lib.Dec.{ltb}
 use borrow.Author.Tests.{ltb-true, lt-ltb}
-use Rattle.scan.specs.Booleans.{both, all-two, zero-one}
+use Rattle.scans.specs.Booleans.{both, all-two, zero-one}
 use Rattle.masks.specs.Masks.{permits}
 use Rattle.system.specs.declared.RunState.{RunState}
 use Rattle.system.specs.declared.RunState.the-variants.{Runnable}

@@ -6,7 +6,7 @@ use mathlib.Core.Logic.{_⊎_, inl, inr}
 use mathlib.Core.List.{List, [], _∷_, _++_}
 use native.Mathlib.Omega.{arith}
 use lib.ListN.{length}
-use Rattle.scan.specs.Booleans.{zero-one}
+use Rattle.scans.specs.Booleans.{zero-one}
 use Rattle.system.specs.declared.System.{System}
 use Rattle.system.specs.Answers.{SystemOutcome}
 use Rattle.system.specs.Writes.{Tables}
@@ -18,6 +18,7 @@ use Rattle.policy.specs.declared.Scheduler.{Scheduler}
 use Rattle.policy.specs.Accounting.{accounted}
 use Rattle.policy.proofs.Laws.{renew-same}
 use Rattle.rules.specs.Choices.{choice}
+use Rattle.rules.specs.Due.{chosen}
 use Rattle.rules.specs.Settle.{Settled, settle, limit}
 use Rattle.rules.proofs.Laws.{run-enacted, run-keeps, preempt-enacted, preempt-keeps}
 use Rattle.rules.proofs.Laws.{Trace, rest, run, preempt, settle-trace, trace-keeps, trace-pooled, settle-ends, settle-most, advance-rests, rest-quiet}
@@ -65,7 +66,7 @@ module _ (π : Scheduler) (now : ℕ) where
       subst (λ (o : System). Made (afterCalls o now before) π now c)
       (ap (λ (o : SystemOutcome). o .system) (enacted-run s S now i p can) ∙ ap (λ (z : Choice). (called s now z) .system) y)
       (trace-made r (k .shape .tables T) (k .sound) before after c (cc))
-  trace-made (preempt {s} {i = i} {p = p} e can r) T S [] after c h =
+  trace-made (preempt {s} {i = i} {p = p} (chosen e) can r) T S [] after c h =
       let x : Preempt i p ≡ c = cc in
       subst (Made s π now) x
       (record {

@@ -7,7 +7,7 @@ use mathlib.Core.List.{List, [], _∷_, map}
 use native.Mathlib.Omega.{arith}
 use lib.Dec.{ltb}
 use lib.ListN.{getD}
-use Rattle.scan.specs.Booleans.{zero-one}
+use Rattle.scans.specs.Booleans.{zero-one}
 use Rattle.service.specs.Service.{moreDeserving}
 use Rattle.system.specs.declared.RunState.the-variants.{Offline}
 use Rattle.system.specs.declared.VirtualCpu.{VirtualCpu}
@@ -30,10 +30,10 @@ use Rattle.moves.specs.Decide.{Standings, decide}
 use Rattle.moves.specs.BackToLast.{placedBack}
 use Rattle.policy.specs.declared.Scheduler.{Scheduler}
 use Rattle.policy.specs.Standing.{serviceBy, serviceAt, weightAt}
-use Rattle.rules.specs.Choices.{isExpired, standings, choice, coldChoice}
-use Rattle.rules.specs.ChoiceLaws.{choice-cold}
+use Rattle.rules.specs.Choices.{isExpired, standings, choice, choiceByLowest}
+use Rattle.rules.specs.ChoiceLaws.{choice-by-lowest}
 use Rattle.advance.specs.Advance.{named, recommended, next}
-use Rattle.advance.specs.BackToLast.{withoutLast, withoutLasts, anywhere, AlikeAnywhere, Forgets}
+use Rattle.advance.specs.BackToLast.{withoutLast, withoutLasts, anywhere, AlikeAnywhere, NextForgets}
 use Rattle.advance.specs.ServiceRule.{ruleOf}
 use Rattle.advance.proofs.Recommendations.{next-placed}
 
@@ -106,15 +106,15 @@ module _ (s : System) where
           idle = idleAt s;
         }
 
-    cold-same : coldChoice t (ruleOf π) now ≡ coldChoice s (ruleOf π) now
-    unfolding coldChoice standings serviceBy inFlight occupantAt withoutLasts
-    cold-same = ap (λ (w : ℕ → VirtualCpu). decide (told-by w) (slots s)) (λ o i. same i o)
+    lowest-same : choiceByLowest t (ruleOf π) now ≡ choiceByLowest s (ruleOf π) now
+    unfolding choiceByLowest standings serviceBy inFlight occupantAt withoutLasts
+    lowest-same = ap (λ (w : ℕ → VirtualCpu). decide (told-by w) (slots s)) (λ o i. same i o)
 
 -- who is picked is as by the rule without that pCPU
-picked-cold : (s : System) (π : Scheduler) (now : ℕ)
-    → anywhere (named (choice s (ruleOf π) now)) ≡ anywhere (named (coldChoice s (ruleOf π) now))
-picked-cold s π now =
-    ap (λ (c : Choice). anywhere (named c)) (choice-cold s (ruleOf π) now) ∙ go (coldChoice s (ruleOf π) now)
+picked-by-lowest : (s : System) (π : Scheduler) (now : ℕ)
+    → anywhere (named (choice s (ruleOf π) now)) ≡ anywhere (named (choiceByLowest s (ruleOf π) now))
+picked-by-lowest s π now =
+    ap (λ (c : Choice). anywhere (named c)) (choice-by-lowest s (ruleOf π) now) ∙ go (choiceByLowest s (ruleOf π) now)
   where
     go : (c : Choice) → anywhere (named (placedBack (standings s (ruleOf π) now) c)) ≡ anywhere (named c)
     go (Run i p) = refl
@@ -124,8 +124,8 @@ picked-cold s π now =
 module _ (s : System) (π : Scheduler) (now : ℕ) where
   picked : anywhere (named (choice s (ruleOf π) now)) ≡ anywhere (named (choice (withoutLasts s) (ruleOf π) now))
   picked =
-      picked-cold s π now
-      ∙ (ap (λ (c : Choice). anywhere (named c)) (sym (cold-same s π now)) ∙ sym (picked-cold (withoutLasts s) π now))
+      picked-by-lowest s π now
+      ∙ (ap (λ (c : Choice). anywhere (named c)) (sym (lowest-same s π now)) ∙ sym (picked-by-lowest (withoutLasts s) π now))
 
   alike : AlikeAnywhere (next s π now) (next (withoutLasts s) π now)
   unfolding next invariantsHold
@@ -147,11 +147,11 @@ module _ (s : System) (π : Scheduler) (now : ℕ) where
       go (inl e) = let l = c .exists in omega arith
       go (inr e) = let r = c .ready in zero-one cc
 
-  pub next-forgets : Forgets s π now
-  next-forgets =
-      record {
-        verdict = verdict-same s;
-        service = service-same s π now;
-        alike = alike;
-        lowest = λ d v p q e. next-placed (withoutLasts s) π now d v p e .lowest (none-back (slot d v)) q;
-      }
+pub next-forgets : NextForgets
+next-forgets s π now =
+    record {
+      verdict = verdict-same s;
+      service = service-same s π now;
+      alike = alike s π now;
+      lowest = λ d v p q e. next-placed (withoutLasts s) π now d v p e .lowest (none-back s π now (slot d v)) q;
+    }

@@ -20,7 +20,7 @@ use Rattle.policy.specs.Accounting.{accounted}
 use Rattle.rules.specs.Settle.{limit}
 use Rattle.advance.specs.declared.Decision.{Decision}
 use Rattle.advance.specs.declared.Decision.the-variants.{Idle}
-use Rattle.advance.specs.Advance.{named, NextOutcome, next, Advance, advance}
+use Rattle.advance.specs.Advance.{named, NextOutcome, next, AdvanceResult, advance}
 use Rattle.advance.specs.Enacting.{called, afterCalls, Does}
 use Rattle.advance.proofs.Enacting.{advance-does}
 
@@ -30,7 +30,7 @@ answers d = record { number = 0; decision = d }
 
 -- for every sound system, whose tables are as long as the code's, every policy and every clock
 module _ (s : System) (π : Scheduler) (now : ℕ) (t : Tables s) (S : Sound s) where
-  abbrev r : Advance
+  abbrev r : AdvanceResult
   r = advance s π now
 
   does : Does s π now r

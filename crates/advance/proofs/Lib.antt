@@ -1,17 +1,13 @@
 pub mod Laws
-mod IdleSet
-mod Limit
 mod Lookups
-mod DueLoop
+mod SurveyLoop
 mod AdvanceResult
 mod Enacting
 mod Recommendations
 mod ByIds
 mod Forgetting
-mod SettleLoop
-mod SettleMoves
-mod Rows
+mod ServiceSteady
 mod ServiceRows
-mod RowUpdates
-mod RowStores
+mod EnactLoop
+mod RunTimes
 pub mod LastSlots

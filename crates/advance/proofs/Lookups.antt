@@ -6,7 +6,7 @@ use lib.Dec.{ltb}
 use borrow.Author.Tests.{ltb-true, ltb-false, le-ltb}
 use Rattle.system.specs.declared.RunState.{RunState}
 use Rattle.system.specs.declared.RunState.the-variants.{Offline, Runnable, Running, Blocked}
-use Rattle.verdict.specs.Elements.{runsWithin}
+use Rattle.verdict.specs.OneViolation.{runsWithin}
 use Rattle.policy.proofs.Laws.{vcpu-below, vcpu-beyond}
 
 -- a vCPU id is below 8, whatever the count

@@ -4,14 +4,13 @@ use mathlib.Core.Bool.{Bool, true, false}
 use mathlib.Core.Path.{_≡_, refl, sym, _∙_, ap, ap₂}
 use native.Mathlib.Omega.{arith}
 use borrow.Author.Tests.{lt-ltb}
-use Rattle.scan.specs.Booleans.{zero-one}
+use Rattle.scans.specs.Booleans.{zero-one}
 use Rattle.system.specs.declared.System.{System}
-use Rattle.system.specs.declared.Answer.the-variants.{Done}
-use Rattle.system.specs.Answers.{told, SystemOutcome}
+use Rattle.system.specs.Answers.{SystemOutcome}
 use Rattle.system.specs.Slots.{pcpus, slot, Present, slot-of}
 use Rattle.verdict.specs.Violations.{invariantsHold}
 use Rattle.verdict.specs.Sound.{Sound, sound-iff}
-use Rattle.changes.specs.declared.Request.{Request}
+use Rattle.calls.specs.declared.Request.{Request}
 use Rattle.sched.specs.Steps.{made, requested, run, preempt}
 use Rattle.sched.specs.CanRun.{CanRun}
 use Rattle.sched.proofs.Laws.{requested-made}
@@ -24,7 +23,8 @@ use Rattle.advance.specs.declared.Decision.{Decision}
 use Rattle.advance.specs.declared.Decision.the-variants as decision
 use Rattle.rules.specs.Choices.{choice}
 use Rattle.advance.specs.Advance.{named, recommended, next}
-use Rattle.advance.specs.BackToLast.{Placed}
+use Rattle.advance.specs.BackToLast.{RunPlaced}
+use Rattle.advance.specs.ByIds.{RunAccepted, PreemptAccepted}
 use Rattle.rules.specs.ChoiceLaws.{choice-run, choice-back, choice-lowest, choice-preempt}
 use Rattle.rules.proofs.Laws.{run-enacted, preempt-enacted}
 use Rattle.advance.specs.ServiceRule.{ruleOf}
@@ -95,29 +95,29 @@ module _ (s : System) (π : Scheduler) (now : ℕ) where
       go S (Run i q) f h = absurd (zero-one cc)
       go S Rest f h = absurd (zero-one cc)
 
-  -- who is told to run a vCPU, and runs it, is told 0
-  pub next-run-accepted : (d v p : ℕ) → (next s π now) .decision ≡ decision.Run d v p → (run s d v p now) .number ≡ told Done
-  next-run-accepted d v p e =
-      let x = chosen-run d v p e in
-      let c = choice-run s (ruleOf π) now (slot d v) p (x .is) in
-      ap₂ (λ (d v : ℕ). (run s d v p now) .number) (sym (x .domain)) (sym (x .vcpu))
-      ∙ ap (λ (r : SystemOutcome). r .number) (sym (enacted-run s (x .sound) now (slot d v) p c) ∙ run-enacted s now (slot d v) p c)
+-- who is told to run a vCPU, and runs it, is told 0
+pub next-run-accepted : RunAccepted
+next-run-accepted s π now d v p e =
+    let x = chosen-run s π now d v p e in
+    let c = choice-run s (ruleOf π) now (slot d v) p (x .is) in
+    ap₂ (λ (d v : ℕ). (run s d v p now) .number) (sym (x .domain)) (sym (x .vcpu))
+    ∙ ap (λ (r : SystemOutcome). r .number) (sym (enacted-run s (x .sound) now (slot d v) p c) ∙ run-enacted s now (slot d v) p c)
 
-  -- and so is who is told to preempt one, and does
-  pub next-preempt-accepted : (d v p : ℕ) → (next s π now) .decision ≡ decision.Preempt d v p → (preempt s d v now) .number ≡ told Done
-  next-preempt-accepted d v p e =
-      let x = chosen-preempt d v p e in
-      let c = choice-preempt s (ruleOf π) now (slot d v) p (x .is) in
-      ap₂ (λ (d v : ℕ). (preempt s d v now) .number) (sym (x .domain)) (sym (x .vcpu))
-      ∙ ap (λ (r : SystemOutcome). r .number)
-      (sym (enacted-preempt s (x .sound) now (slot d v) p (c .present)) ∙ preempt-enacted s now (slot d v) p (c .on))
+-- and so is who is told to preempt one, and does
+pub next-preempt-accepted : PreemptAccepted
+next-preempt-accepted s π now d v p e =
+    let x = chosen-preempt s π now d v p e in
+    let c = choice-preempt s (ruleOf π) now (slot d v) p (x .is) in
+    ap₂ (λ (d v : ℕ). (preempt s d v now) .number) (sym (x .domain)) (sym (x .vcpu))
+    ∙ ap (λ (r : SystemOutcome). r .number)
+    (sym (enacted-preempt s (x .sound) now (slot d v) p (c .present)) ∙ preempt-enacted s now (slot d v) p (c .on))
 
-  -- where a Run that is recommended goes
-  pub next-placed : (d v p : ℕ) → (next s π now) .decision ≡ decision.Run d v p → Placed s (slot d v) p
-  next-placed d v p e =
-      let f = chosen-run d v p e .is in
-      record {
-        can = choice-run s (ruleOf π) now (slot d v) p f;
-        back = choice-back s (ruleOf π) now (slot d v) p f;
-        lowest = λ n q. choice-lowest s (ruleOf π) now (slot d v) p q f n;
-      }
+-- where a Run that is recommended goes
+pub next-placed : RunPlaced
+next-placed s π now d v p e =
+    let f = chosen-run s π now d v p e .is in
+    record {
+      can = choice-run s (ruleOf π) now (slot d v) p f;
+      back = choice-back s (ruleOf π) now (slot d v) p f;
+      lowest = λ n q. choice-lowest s (ruleOf π) now (slot d v) p q f n;
+    }

@@ -36,19 +36,19 @@ unfoldable pub next : System → Scheduler → ℕ → NextOutcome
 next s π now = recommended (invariantsHold s) (choice s (ruleOf π) now)
 
 -- what an advance is told, and what it leaves; the count that it answers is the number of moves
-pub record Advance : Type 0 where
+pub record AdvanceResult : Type 0 where
   pub number : ℕ
   pub system : System
   pub policy : Scheduler
   pub moves : List Choice
 
 -- an advance of a sound system
-abbrev pub soundAdvance : System → Scheduler → ℕ → Advance
+abbrev pub soundAdvance : System → Scheduler → ℕ → AdvanceResult
 soundAdvance s π now =
     let ρ = accounted s π now in
     let r = settle (ruleOf ρ) now (limit s) s in
     record { number = told Done; system = r .system; policy = ρ; moves = r .moves }
 
-unfoldable pub advance : System → Scheduler → ℕ → Advance
+unfoldable pub advance : System → Scheduler → ℕ → AdvanceResult
 advance s π now =
     cond (invariantsHold s) (soundAdvance s π now) (record { number = told Unsound; system = s; policy = π; moves = [] })

@@ -10,7 +10,7 @@ use Rattle.verdict.specs.Violations.{invariantsHold}
 use Rattle.policy.specs.declared.Scheduler.{Scheduler}
 use Rattle.rules.specs.Choices.{choice}
 use Rattle.advance.specs.declared.Decision.the-variants as decision
-use Rattle.advance.specs.Advance.{NextOutcome, recommended, next, Advance, soundAdvance, advance}
+use Rattle.advance.specs.Advance.{NextOutcome, recommended, next, AdvanceResult, soundAdvance, advance}
 use Rattle.advance.specs.ServiceRule.{ruleOf}
 
 -- what a number says of the system: 0 that it is sound, 8 that it is not; no other is told
@@ -37,7 +37,7 @@ next-answered s π now = go (invariantsHold s) refl
         record { tells = record { sound = λ f. absurd (false≢true (sym e ∙ f)); unsound = λ f. refl }; refused = λ n. refl }
 
 -- an advance: a number other than 0 leaves the system and the policy as they were, with no moves
-pub record AdvanceAnswered (s : System) (π : Scheduler) (r : Advance) : Type 0 where
+pub record AdvanceAnswered (s : System) (π : Scheduler) (r : AdvanceResult) : Type 0 where
   pub tells : Tells s (r .number)
   pub refused : (r .number ≡ told Done → ⊥) → (r .system ≡ s) × (r .policy ≡ π) × (r .moves ≡ [])
 

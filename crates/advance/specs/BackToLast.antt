@@ -1,6 +1,6 @@
--- Where `next` dispatches a vCPU, and `next` beside the Rust's, which keeps no pCPU: of every system, sound or not, and
+-- Where `next` dispatches a vCPU, and `next` beside upstream's, which keeps no pCPU: of every system, sound or not, and
 -- of that system with every kept pCPU forgotten it is told the same and recommends the same move of the same vCPU, but
--- that the pCPU of a Run may be another. Proved as `next-placed` and `next-forgets`.
+-- that the pCPU of a Run may be another. The statements `RunPlaced` and `NextForgets` are proved as `next-placed` and `next-forgets`.
 use Prim.Native.Nat.{ℕ, _≤_}
 use mathlib.Core.Path.{_≡_}
 use mathlib.Core.List.{map}
@@ -19,17 +19,21 @@ use Rattle.advance.specs.Advance.{NextOutcome, next}
 
 -- the vCPU of slot i goes onto pCPU p: the one that it was last on if it may be dispatched there, else the lowest-numbered that it
 -- may be dispatched onto
-pub record Placed (s : System) (i p : ℕ) : Type 0 where
+pub record PlacedRun (s : System) (i p : ℕ) : Type 0 where
   pub can : CanRun s i p
   pub back : CanRun s i (lastAt s i) → p ≡ lastAt s i
   pub lowest : (CanRun s i (lastAt s i) → ⊥) → (q : ℕ) → CanRun s i q → p ≤ q
+
+-- so does whoever `next` says to run, on every system
+abbrev pub RunPlaced : Type 0
+RunPlaced = (s : System) (π : Scheduler) (now d v p : ℕ) → (next s π now) .decision ≡ decision.Run d v p → PlacedRun s (slot d v) p
 
 -- a vCPU as if it had been dispatched onto none
 abbrev pub withoutLast : VirtualCpu → VirtualCpu
 withoutLast v =
     record { state = v .state; runtime = v .runtime; «dispatched_at» = v .«dispatched_at»; affinity = v .affinity; last = noPcpu }
 
--- a system with every kept pCPU forgotten: all that the Rust has of it
+-- a system with every kept pCPU forgotten: all that upstream has of it
 unfoldable pub withoutLasts : System → System
 withoutLasts s =
     record {
@@ -58,6 +62,10 @@ pub record Forgets (s : System) (π : Scheduler) (now : ℕ) : Type 0 where
   pub service : (i : ℕ) → serviceAt (withoutLasts s) π now i ≡ serviceAt s π now i
   -- and `next` tells and picks the same without them
   pub alike : AlikeAnywhere (next s π now) (next (withoutLasts s) π now)
-  -- by the Rust's rule: onto the lowest-numbered pCPU that it may be dispatched onto
+  -- by upstream's rule: onto the lowest-numbered pCPU that it may be dispatched onto
   pub lowest : (d v p q : ℕ) → (next (withoutLasts s) π now) .decision ≡ decision.Run d v p
       → CanRun (withoutLasts s) (slot d v) q → p ≤ q
+
+-- on every system, under every policy and at every clock
+abbrev pub NextForgets : Type 0
+NextForgets = (s : System) (π : Scheduler) (now : ℕ) → Forgets s π now

@@ -1,5 +1,5 @@
 -- What `next` answers, by the ids that it names and by what can be read of the system, sound or not. Proved as
--- `next-preempts` and `next-least`.
+-- `next-run-accepted`, `next-preempt-accepted`, `next-preempts` and `next-least`.
 use Prim.Native.Nat.{ℕ, _*_, _^_, _≤_, _<_}
 use mathlib.Core.Bool.{true}
 use mathlib.Core.Path.{_≡_}
@@ -8,13 +8,26 @@ use Rattle.system.specs.declared.RunState.the-variants.{Runnable, Running}
 use Rattle.system.specs.declared.Occupant.the-variants.{Idle}
 use Rattle.system.specs.declared.System.{System}
 use Rattle.system.specs.declared.MaybeState.the-variants.{Some}
+use Rattle.system.specs.declared.Answer.the-variants.{Done}
+use Rattle.system.specs.Answers.{told}
 use Rattle.system.specs.Reads.{stateOf, occupantOf, affinityPermits}
 use Rattle.system.specs.Slots.{slot}
+use Rattle.sched.specs.Steps.{run, preempt}
 use Rattle.policy.specs.declared.Scheduler.{Scheduler}
 use Rattle.policy.specs.Accounts.{weightOf}
 use Rattle.policy.specs.Standing.{serviceAt}
 use Rattle.advance.specs.declared.Decision.the-variants.{Run, Preempt}
 use Rattle.advance.specs.Advance.{next}
+
+-- who is told to run a vCPU, and runs it, is told 0
+abbrev pub RunAccepted : Type 0
+RunAccepted = (s : System) (π : Scheduler) (now d v p : ℕ) → (next s π now) .decision ≡ Run d v p
+    → (run s d v p now) .number ≡ told Done
+
+-- and so is who is told to preempt one, and does
+abbrev pub PreemptAccepted : Type 0
+PreemptAccepted = (s : System) (π : Scheduler) (now d v p : ℕ) → (next s π now) .decision ≡ Preempt d v p
+    → (preempt s d v now) .number ≡ told Done
 
 -- whoever is to be preempted is Running on the pCPU that is named
 abbrev pub PreemptsThere : Type 0

@@ -19,7 +19,7 @@ use Rattle.moves.specs.declared.Choice.the-variants.{Run, Preempt, Rest}
 use Rattle.policy.specs.declared.Scheduler.{Scheduler}
 use Rattle.policy.specs.Accounting.{accounted}
 use Rattle.rules.specs.Settle.{limit}
-use Rattle.advance.specs.Advance.{named, NextOutcome, next, Advance, advance}
+use Rattle.advance.specs.Advance.{named, NextOutcome, next, AdvanceResult, advance}
 
 -- the mechanism's call that makes a move
 abbrev pub called : System → ℕ → Choice → SystemOutcome
@@ -42,7 +42,7 @@ pub record Made (s : System) (π : Scheduler) (now : ℕ) (c : Choice) : Type 0 
   pub answered : next s π now ≡ recommending c
   pub accepted : (called s now c) .number ≡ told Done
 
-pub record Does (s : System) (π : Scheduler) (now : ℕ) (r : Advance) : Type 0 where
+pub record Does (s : System) (π : Scheduler) (now : ℕ) (r : AdvanceResult) : Type 0 where
   -- it is told 0, and the policy that it leaves has the renewed accounts
   pub number : r .number ≡ told Done
   pub policy : r .policy ≡ accounted s π now

@@ -6,6 +6,7 @@ pub mod BackToLast
 pub mod Enacting
 pub mod Least
 pub mod ByIds
-pub mod Internal
+pub mod Survey
+pub mod Tabulated
 pub mod Computing
 pub mod Rows

@@ -20,7 +20,7 @@ use Rattle.policy.specs.declared.Scheduler.{Scheduler}
 use Rattle.policy.specs.Accounts.{noOffset, offsetOf, wasSchedulable, putAccount, freshPolicy}
 use Rattle.advance.specs.declared.Decision.{Decision}
 use Rattle.advance.specs.declared.Decision.the-variants as decision
-use Rattle.advance.specs.Advance.{next, Advance, advance}
+use Rattle.advance.specs.Advance.{next, AdvanceResult, advance}
 use Rattle.advance.specs.BackToLast.{withoutLasts}
 use Rattle.advance.specs.Outcomes.{counted}
 use Rattle.advance.specs.Computing.{computing}
@@ -51,7 +51,7 @@ holder Idle = []
 holder (Vcpu d v) = d ∷ v ∷ []
 
 -- of an advance: the count; the moves; who holds pCPU 0; the run time of 0/0; who of 0/0 and 0/1 is in the snapshot; the offset of 0/1
-abbrev read : Advance → List ℕ
+abbrev read : AdvanceResult → List ℕ
 read r =
     (counted r) .count ∷ moved (r .moves) ++ holder (occupantAt (r .system) 0)
     ++ (runtimeAt (r .system) 0 ∷ test (wasSchedulable (r .policy) 0 0) ∷ test (wasSchedulable (r .policy) 0 1)

@@ -39,7 +39,7 @@ number-add bs at m (suc n) =
     let scaled = mul-assoc (number bs at m) (256 ^ n) 256 in
     rw (add-suc m n, pow-suc 256 n) (omega (arith, number-add bs at m n, here, scaled))
 
-pub number-one : (bs : List ℕ) (at : ℕ) → number bs at 1 ≡ getD bs at 0
+number-one : (bs : List ℕ) (at : ℕ) → number bs at 1 ≡ getD bs at 0
 unfolding number
 number-one bs at = rw (add-zero at) (omega arith)
 

@@ -1,5 +1,5 @@
 -- Numbers in bytes by hand. Assumes nothing.
-use Prim.Native.Nat.{ℕ, _+_, _*_, _-_, _^_}
+use Prim.Native.Nat.{ℕ, _+_, _-_, _^_}
 use mathlib.Core.Path.{refl}
 use mathlib.Core.List.{List, [], _∷_}
 use Rattle.rows.specs.Rows.{Row, row, rows, AllDue}

@@ -1,1 +1,3 @@
+pub mod Laws
 mod Refusals
+mod HandsBack

@@ -2,7 +2,7 @@
 use Prim.Native.Nat.{ℕ}
 use mathlib.Core.Bool.{Bool, true, cond}
 use lib.Dec.{ltb}
-use Rattle.masks.specs.Masks.{permits}
+use Rattle.masks.specs.Masks.{permits, fullMask, clipped}
 use Rattle.system.specs.declared.RunState.{RunState}
 use Rattle.system.specs.declared.RunState.the-variants.{Offline, Runnable, Running, Blocked}
 use Rattle.system.specs.declared.VirtualCpu.{VirtualCpu}
@@ -14,7 +14,7 @@ use Rattle.system.specs.declared.Answer.the-variants.{Done, PcpuBusy, NotAffine
 use Rattle.system.specs.declared.Answer.the-variants.{FoundOffline, FoundRunnable, FoundRunning, FoundBlocked}
 use Rattle.system.specs.Records.{withMask}
 use Rattle.system.specs.Reads.{isIdle}
-use Rattle.changes.specs.declared.Request.{Request}
+use Rattle.calls.specs.declared.Request.{Request}
 use Rattle.changes.specs.declared.Change.{Change}
 use Rattle.changes.specs.declared.Change.the-variants.{Refuse, Write, Enter, Leave}
 use Rattle.changes.specs.declared.After.{After}
@@ -76,15 +76,15 @@ offlined v full now Runnable = Write (forgotten (withState v Offline) full)
 offlined v full now (Running p) = Leave (forgotten (left v Offline now) full) p
 offlined v full now Blocked = Write (forgotten (withState v Offline) full)
 
--- what a request does to a vCPU whose record is v, on a host whose full mask is given
+-- what a request does to a vCPU whose record is v, on a host of n pCPUs: a new mask is clipped to them
 abbrev pub changed : Request → ℕ → VirtualCpu → Change
-changed Request.Admit full v = admitted v (v .state)
-changed (Request.Run p now) full v = ran v p now (v .state)
-changed (Request.Preempt now) full v = preempted v now (v .state)
-changed (Request.Block now) full v = blocked v now (v .state)
-changed Request.Wake full v = woken v (v .state)
-changed (Request.SetAffinity m) full v = masked v m (v .state)
-changed (Request.Offline now) full v = offlined v full now (v .state)
+changed Request.Admit n v = admitted v (v .state)
+changed (Request.Run p now) n v = ran v p now (v .state)
+changed (Request.Preempt now) n v = preempted v now (v .state)
+changed (Request.Block now) n v = blocked v now (v .state)
+changed Request.Wake n v = woken v (v .state)
+changed (Request.SetAffinity m) n v = masked v (clipped m n) (v .state)
+changed (Request.Offline now) n v = offlined v (fullMask n) now (v .state)
 
 -- the pCPU that a run asks for is one of n; the other requests ask for none
 abbrev pub reaches : Request → ℕ → Bool
@@ -96,18 +96,14 @@ reaches Request.Wake n = true
 reaches (Request.SetAffinity m) n = true
 reaches (Request.Offline now) n = true
 
--- the pCPU that a change is about; 0 where there is none
-abbrev pub pcpuOf : Change → ℕ
-pcpuOf (Refuse a) = 0
-pcpuOf (Write v) = 0
-pcpuOf (Enter v p) = p
-pcpuOf (Leave v p) = p
+-- a refusal hands the records back as they are
+abbrev pub kept : Answer → VirtualCpu → PhysicalCpu → After
+kept a v c = record { answer = a; vcpu = v; pcpu = c }
 
 -- what a change of the vCPU who tells, and what it leaves at its slot, where v stood, and at its pCPU, where c stood
 abbrev pub stored : Change → Occupant → VirtualCpu → PhysicalCpu → After
-stored (Refuse a) who v c = record { answer = a; vcpu = v; pcpu = c }
+stored (Refuse a) who v c = kept a v c
 stored (Write w) who v c = record { answer = Done; vcpu = w; pcpu = c }
 stored (Enter w p) who v c =
-    cond (isIdle (c .occupant)) (record { answer = Done; vcpu = w; pcpu = record { occupant = who } })
-    (record { answer = PcpuBusy; vcpu = v; pcpu = c })
+    cond (isIdle (c .occupant)) (record { answer = Done; vcpu = w; pcpu = record { occupant = who } }) (kept PcpuBusy v c)
 stored (Leave w p) who v c = record { answer = Done; vcpu = w; pcpu = record { occupant = Idle } }

@@ -1,4 +1,5 @@
 pub mod Records
 pub mod Changes
-pub mod Found
+pub mod StateTold
+pub mod HandsBack
 pub mod Rows

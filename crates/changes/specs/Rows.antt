@@ -10,7 +10,7 @@ use Rattle.system.specs.declared.Occupant.{Occupant}
 use Rattle.system.specs.declared.Occupant.the-variants.{Idle, Vcpu}
 use Rattle.system.specs.Answers.{told}
 use Rattle.system.specs.States.{whileRunning}
-use Rattle.changes.specs.declared.Request.{Request}
+use Rattle.calls.specs.declared.Request.{Request}
 use Rattle.changes.specs.declared.After.{After}
 use Rattle.changes.specs.Records.{dispatched, left}
 use Rattle.changes.specs.Changes.{changed, reaches, stored}
@@ -45,13 +45,13 @@ vcpu time st = record { state = st; runtime = time; «dispatched_at» = 100; aff
 
 -- a request of it, on a host of 4 pCPUs, where the pCPU in question is held so
 abbrev after : Request → RunState → Occupant → List ℕ
-after q st o = seen (stored (changed q 15 (vcpu 7 st)) (Vcpu 2 3) (vcpu 7 st) (record { occupant = o }))
+after q st o = seen (stored (changed q 4 (vcpu 7 st)) (Vcpu 2 3) (vcpu 7 st) (record { occupant = o }))
 
 -- a preemption at a clock, by the run time
 abbrev preempted-at : ℕ → ℕ → List ℕ
 preempted-at time now =
     let v = vcpu time (Running 2) in
-    seen (stored (changed (Request.Preempt now) 15 v) (Vcpu 2 3) v (record { occupant = Vcpu 2 3 }))
+    seen (stored (changed (Request.Preempt now) 4 v) (Vcpu 2 3) v (record { occupant = Vcpu 2 3 }))
 
 -- a number is told, and it is as it was: off its pCPU, or Running on pCPU 2
 abbrev kept : ℕ → ℕ → ℕ → List ℕ
@@ -106,6 +106,9 @@ requests =
     ∷ rows (after (Request.SetAffinity 4) (Running 2) mine) (0 ∷ 12 ∷ 7 ∷ 100 ∷ 4 ∷ 3 ∷ 24 ∷ [])
     ∷ rows (after (Request.SetAffinity 11) (Running 2) mine) (kept-on 6)
     ∷ rows (after (Request.SetAffinity 0) Blocked Idle) (0 ∷ 2 ∷ 7 ∷ 0 ∷ 0 ∷ 3 ∷ 0 ∷ [])
+    -- clipped to the 4 pCPUs: as it is stored, and as it is tested
+    ∷ rows (after (Request.SetAffinity (2 ^ 64 - 1)) Runnable Idle) (0 ∷ 1 ∷ 7 ∷ 0 ∷ 15 ∷ 3 ∷ 0 ∷ [])
+    ∷ rows (after (Request.SetAffinity (2 ^ 64 - 5)) (Running 2) mine) (kept-on 6)
     -- offline at 110: of one not Offline; the mask is filled, no pCPU is the last, the run time is kept
     ∷ rows (after (Request.Offline 110) Runnable Idle) (0 ∷ 0 ∷ 7 ∷ 0 ∷ 15 ∷ 64 ∷ 0 ∷ [])
     ∷ rows (after (Request.Offline 110) (Running 2) mine) (0 ∷ 0 ∷ 17 ∷ 0 ∷ 15 ∷ 64 ∷ 0 ∷ [])

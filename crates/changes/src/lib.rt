@@ -6,7 +6,8 @@ ghost use Prim.Native.Nat.{_+_, _-_, _^_, min};
 ghost use Rattle.system.specs.Records.{withMask};
 ghost use Rattle.changes.specs.Records.{withState, dispatched, left, forgotten};
 ghost use Rattle.changes.specs.Changes.{foundIn, admitted, ran, preempted, blocked, woken, masked, offlined};
-ghost use Rattle.changes.specs.Changes.{changed, reaches, pcpuOf, stored};
+ghost use Rattle.changes.specs.Changes.{changed, reaches, kept, stored};
+use calls::Request;
 use system::Answer;
 use system::NO_PCPU;
 use system::Occupant;
@@ -17,17 +18,6 @@ use system::Ticks;
 use system::VirtualCpu;
 use system::elapsed;
 use system::is_idle;
-
-/// What is asked of one vCPU.
-pub enum Request {
-    Admit,
-    Run { pcpu: Pcpu, now: Ticks },
-    Preempt { now: Ticks },
-    Block { now: Ticks },
-    Wake,
-    SetAffinity { mask: u64 },
-    Offline { now: Ticks },
-}
 
 /// What a request does to its vCPU: it is refused, or the vCPU's record is written anew, as it goes
 /// onto a pCPU or leaves one too.
@@ -217,9 +207,10 @@ fn offlined(v: VirtualCpu, full: u64, now: Ticks) -> Change
     }
 }
 
-/// What a request does to the vCPU whose record is `v`, on a host whose full mask is given.
-pub fn changed(request: Request, v: VirtualCpu, full: u64) -> Change
-    ensures { λ r. ⌜ r ≡ changed request full v ⌝ }
+/// What a request does to the vCPU whose record is `v`, on a host of so many pCPUs: a new mask is
+/// clipped to them.
+pub fn changed(request: Request, v: VirtualCpu, pcpu_count: usize) -> Change
+    ensures { λ r. ⌜ r ≡ changed request «pcpu_count» v ⌝ }
 {
     match request {
         Request::Admit => admitted(v),
@@ -227,24 +218,12 @@ pub fn changed(request: Request, v: VirtualCpu, full: u64) -> Change
         Request::Preempt { now } => preempted(v, now),
         Request::Block { now } => blocked(v, now),
         Request::Wake => woken(v),
-        Request::SetAffinity { mask } => masked(v, mask),
-        Request::Offline { now } => offlined(v, full, now),
+        Request::SetAffinity { mask } => masked(v, masks::clip(mask, pcpu_count)),
+        Request::Offline { now } => offlined(v, masks::full_mask(pcpu_count), now),
     }
 }
 
 // ---- what a change leaves
-
-/// The pCPU that a change is about, as an index; 0 where there is none.
-pub fn pcpu_of(change: Change) -> usize
-    ensures { λ r. ⌜ r ≡ pcpuOf change ⌝ }
-{
-    match change {
-        Change::Refuse(_) => 0,
-        Change::Write(_) => 0,
-        Change::Enter { vcpu: _, pcpu } => pcpu as usize,
-        Change::Leave { vcpu: _, pcpu } => pcpu as usize,
-    }
-}
 
 /// What a change tells, and what stands after it at the vCPU's slot and at the change's pCPU.
 // The answer stands last: behind it the records would lie across words, and each read of them would wait.
@@ -254,16 +233,23 @@ pub struct After {
     pub answer: Answer,
 }
 
+/// A refusal hands the records back as they are.
+pub fn kept(answer: Answer, v: VirtualCpu, c: PhysicalCpu) -> After
+    ensures { λ r. ⌜ r ≡ kept answer v c ⌝ }
+{
+    After {
+        answer,
+        vcpu: v,
+        pcpu: c,
+    }
+}
+
 /// A change of the vCPU `who`, where `v` is its record and `c` the change's pCPU.
 pub fn stored(change: Change, who: Occupant, v: VirtualCpu, c: PhysicalCpu) -> After
     ensures { λ r. ⌜ r ≡ stored change who v c ⌝ }
 {
     match change {
-        Change::Refuse(answer) => After {
-            answer,
-            vcpu: v,
-            pcpu: c,
-        },
+        Change::Refuse(answer) => kept(answer, v, c),
         Change::Write(w) => After {
             answer: Answer::Done,
             vcpu: w,
@@ -278,11 +264,7 @@ pub fn stored(change: Change, who: Occupant, v: VirtualCpu, c: PhysicalCpu) -> A
                     pcpu: PhysicalCpu { occupant: who },
                 }
             } else {
-                After {
-                    answer: Answer::PcpuBusy,
-                    vcpu: v,
-                    pcpu: c,
-                }
+                kept(Answer::PcpuBusy, v, c)
             }
         }
         Change::Leave { vcpu, pcpu: _ } => After {

@@ -5,7 +5,7 @@ use mathlib.Core.Path.{_≡_, refl, sym, _∙_, ap, subst}
 use mathlib.Core.Logic.{_≢_}
 use native.Mathlib.Omega.{arith}
 use native.Mathlib.Decide.{ℕ-discrete}
-use Rattle.masks.specs.Masks.{fullMask}
+use Rattle.masks.specs.Masks.{permits, fullMask, clipped}
 use Rattle.masks.specs.Laws.{full-permits}
 use Rattle.system.specs.declared.RunState.{RunState}
 use Rattle.system.specs.declared.RunState.the-variants.{Offline, Runnable, Running, Blocked}
@@ -14,11 +14,11 @@ use Rattle.system.specs.declared.Occupant.{Occupant}
 use Rattle.system.specs.declared.System.{System}
 use Rattle.system.specs.Reads.{vcpuAt, fullAffinity, stateAt}
 use Rattle.system.specs.Writes.{Tables, Wrote, wrote-vcpu, present-back, present-on}
-use Rattle.system.specs.Slots.{domains, vcpus, pcpus, slot, Present, slot-below}
+use Rattle.system.specs.Slots.{domains, vcpus, slot, Present, slot-below}
 use Rattle.system.specs.States.{schedulable}
 use Rattle.verdict.specs.Sound.{Sound}
 use Rattle.system.specs.Records.{withMask}
-use Rattle.changes.specs.declared.Request.{Request}
+use Rattle.calls.specs.declared.Request.{Request}
 use Rattle.changes.specs.declared.Change.{Change}
 use Rattle.changes.specs.declared.Change.the-variants.{Refuse, Write, Enter, Leave}
 use Rattle.sched.specs.Steps.{changeOf, applied, requested, offlineFirst, offlineAll}
@@ -37,7 +37,8 @@ pub record New (full : ℕ) (v : VirtualCpu) : Type 0 where
 pub record Unrun (s : System) : Type 0 where
   pub new : (i : ℕ) → Present s i → New (fullAffinity s) (vcpuAt s i)
 
-unrun-wrote : {s s′ : System} {i p : ℕ} {v : VirtualCpu} {o : Occupant} → Unrun s → Wrote s s′ i v p o → New (fullAffinity s) v → Unrun s′
+unrun-wrote : {s s′ : System} {i p : ℕ} {v : VirtualCpu} {o : Occupant} → Unrun s → Wrote s s′ i v p o
+    → New (fullAffinity s) v → Unrun s′
 unrun-wrote {s} {s′} {i} {p} {v} Y k n = record { new = λ j h. go j h (ℕ-discrete j i) }
   where
     full : fullAffinity s′ ≡ fullAffinity s
@@ -54,7 +55,8 @@ StaysUnrun full (Write v) = New full v
 StaysUnrun full (Enter v p) = ⊥
 StaysUnrun full (Leave v p) = ⊥
 
-applied-unrun : {s : System} {i : ℕ} (c : Change) → Tables s → Unrun s → Present s i → StaysUnrun (fullAffinity s) c → Unrun ((applied s i c) .system)
+applied-unrun : {s : System} {i : ℕ} (c : Change) → Tables s → Unrun s → Present s i → StaysUnrun (fullAffinity s) c
+    → Unrun ((applied s i c) .system)
 unfolding applied
 applied-unrun (Refuse a) t Y h n = Y
 applied-unrun {s} {i} (Write v) t Y h n = unrun-wrote Y (wrote-vcpu s i v 0 t (slot-below h)) n
@@ -106,7 +108,8 @@ module _ {full : ℕ} {v : VirtualCpu} (n : New full v) where
   masked-stays-unrun Blocked e = refilled
 
 module _ (s : System) (t : Tables s) (S : Sound s) (Y : Unrun s) where
-  request-unrun : (d v : ℕ) (q : Request) → (Present s (slot d v) → StaysUnrun (fullAffinity s) (changeOf s (slot d v) q))
+  request-unrun : (d v : ℕ) (q : Request)
+      → (Present s (slot d v) → StaysUnrun (fullAffinity s) (changeOf s (slot d v) q))
       → Unrun ((requested s d v q) .system)
   request-unrun d v q f = requested-case s Unrun Y d v q (λ h r. applied-unrun _ t Y h (f h))
 
@@ -123,9 +126,9 @@ module _ (s : System) (t : Tables s) (S : Sound s) (Y : Unrun s) where
   offline-unrun d v now = request-unrun d v (Request.Offline now) (λ h. offlined-stays-unrun (Y .new (slot d v) h) now _ refl)
 
   -- a mask that is stored full
-  pub mask-unrun : (d v m : ℕ) → m ≡ fullAffinity s → Unrun ((requested s d v (Request.SetAffinity m)) .system)
-  mask-unrun d v m e =
-      rw e (request-unrun d v (Request.SetAffinity (fullAffinity s)) (λ h. masked-stays-unrun (Y .new (slot d v) h) _ refl))
+  pub mask-unrun : (d v m : ℕ) → clipped m (s .«pcpu_count») ≡ fullAffinity s
+      → Unrun ((requested s d v (Request.SetAffinity m)) .system)
+  mask-unrun d v m e = request-unrun d v (Request.SetAffinity m) (λ h. rw e (masked-stays-unrun (Y .new (slot d v) h) _ refl))
 
   first-unrun : (d now k : ℕ) → d < domains s → k ≤ vcpus s → Unrun (offlineFirst s d now k)
   unfolding offlineFirst
@@ -147,7 +150,7 @@ module _ (s : System) (t : Tables s) (S : Sound s) (Y : Unrun s) where
         lag = λ i j hi hj h e. lag′ i j hi (stateAt s i) refl h;
         base = λ i j p hi hj h e. absurd (Y .new i hi .rests p h);
         full = λ i p hi l h.
-            ap (λ (m : ℕ). Rattle.masks.specs.Masks.permits m p) (Y .new i hi .mask) ∙ full-permits (s .«pcpu_count») p (omega arith) (omega arith);
+            ap (λ (m : ℕ). permits m p) (Y .new i hi .mask) ∙ full-permits (s .«pcpu_count») p (omega arith) (omega arith);
         past = λ i p hi h. absurd (Y .new i hi .rests p h);
         early = λ i p hi h. absurd (Y .new i hi .rests p h);
         spare = λ i hi h. omega (arith, Y .new i hi .none);

@@ -23,11 +23,11 @@ use Rattle.system.specs.Slots.{domains, vcpus, pcpus, slot}
 use Rattle.system.specs.Reads.{vcpuAt, occupantAt, isIdle, vcpuOf, stateIn, runs, runtimeIn, since, sinceIn}
 use Rattle.system.specs.Reads.{affinityIn, permitsIn, count, count-same, busyPcpus}
 use Rattle.verdict.specs.Sound.{Sound, sound-none}
-use Rattle.scan.specs.Scan.{some}
+use Rattle.scans.specs.Scan.{some}
 use Rattle.usage.specs.Usage.{sum, usage}
 use Rattle.usage.specs.Sums.{sum-same}
 use Rattle.demand3.specs.Book.{Line, Book, Shape, holder}
-use Rattle.demand3.specs.Agreement.{Says, Agrees}
+use Rattle.demand3.specs.Agreement.{LineSays, Agrees}
 use Rattle.demand3.specs.Lists.{openPart, bookService}
 use Rattle.demand3.specs.Reads.{ReadsLine, ReadsAbsent, ReadsAgree}
 use Rattle.demand3.proofs.Holders.{held-busy, shaped-domains, shaped-vcpus, shaped-pcpus}
@@ -49,7 +49,7 @@ clipped-bits m n p h = go (ltb p n) refl
     go false e = sym (ap (λ (x : ℕ). eqb (x % 2) 1) (div-eq-of-lt (lt-of-lt-of-le h (pow-mono (ltb-false p n e)))))
 
 -- since when, by a line that says what a record has
-since-says : {l : Line} {v : VirtualCpu} → Says l v → (st : RunState) → v .state ≡ st
+since-says : {l : Line} {v : VirtualCpu} → LineSays l v → (st : RunState) → v .state ≡ st
     → since st (v .«dispatched_at») ≡ whileRunning st (λ p. MaybeU64.Some (l .clock)) MaybeU64.None
 since-says y Offline e = refl
 since-says y Runnable e = refl
@@ -57,7 +57,8 @@ since-says y (Running p) e = ap MaybeU64.Some (sym (y .clock p e))
 since-says y Blocked e = refl
 
 -- and its service at a reading
-pub service-says : (b : Book) (s : System) (r i : ℕ) → Says (b i) (vcpuAt s i) → bookService b r i ≡ runtimeUntil (vcpuAt s i) r
+pub service-says : (b : Book) (s : System) (r i : ℕ) → LineSays (b i) (vcpuAt s i)
+    → bookService b r i ≡ runtimeUntil (vcpuAt s i) r
 unfolding inFlight
 service-says b s r i y =
     ap₂ _+_ (y .time) (ap (openPart (b i) r) (y .state) ∙ open-same ((vcpuAt s i) .state) refl)
@@ -88,7 +89,7 @@ module _ {k : Shape} {b : Book} {s : System} (A : Agrees k b s) (S : Sound s) wh
   not-found d v (inl l) = rw (le-ltb d (domains s) (omega (arith, same-domains)))
   not-found d v (inr l) = rw (le-ltb v (vcpus s) (omega (arith, same-vcpus)), and-false (ltb d (domains s)))
 
-  says-there : (d v : ℕ) → d < k .domains → v < k .vcpus → Says (b (slot d v)) (vcpuAt s (slot d v))
+  says-there : (d v : ℕ) → d < k .domains → v < k .vcpus → LineSays (b (slot d v)) (vcpuAt s (slot d v))
   says-there d v l m =
       let z : k .vcpus ≤ 8 = omega (arith, S .vcpus, A .shape .vcpus) in
       A .lines (slot d v) (record { domain = omega arith; vcpu = omega arith })
@@ -115,7 +116,7 @@ module _ {k : Shape} {b : Book} {s : System} (A : Agrees k b s) (S : Sound s) wh
       f : vcpuOf s d v ≡ MaybeVcpu.Some (vcpuAt s (slot d v))
       f = found d v l m
 
-      y : Says (b (slot d v)) (vcpuAt s (slot d v))
+      y : LineSays (b (slot d v)) (vcpuAt s (slot d v))
       y = says-there d v l m
 
   reads-absent : (d v : ℕ) → (k .domains ≤ d) ⊎ (k .vcpus ≤ v) → ReadsAbsent s d v

@@ -12,13 +12,16 @@ use Rattle.system.specs.declared.RunState.{RunState}
 use Rattle.system.specs.declared.RunState.the-variants.{Offline, Runnable, Running, Blocked}
 use Rattle.moves.specs.declared.Choice.{Choice}
 use Rattle.moves.specs.declared.Choice.the-variants.{Run, Preempt, Rest}
-use Rattle.scan.specs.Scan.{some}
-use Rattle.host.specs.declared.Host.{Host}
-use Rattle.host.specs.declared.Call.{Call}
-use Rattle.host.specs.Step.{step}
+use Rattle.scans.specs.Scan.{some}
+use Rattle.calls.specs.declared.Request.{Request}
+use Rattle.calls.specs.declared.Call.{Call}
+use Rattle.changes.specs.Changes.{reaches}
+use Rattle.demand3.specs.Machine.{Machine}
 use Rattle.demand3.specs.Dated.{Direction, onto}
-use Rattle.demand3.specs.Book.{Line, Book, Shape, blankBook, noted, holder, remasked, opened, closed, Note, refuse, write, move, Entry, entered, identified, unwritten}
-use Rattle.demand3.specs.Book.{admitNote, runNote, preemptNote, blockNote, wakeNote, offlineNote, maskNote, offlineLines, movedAll, enter}
+use Rattle.demand3.specs.Book.{Line, Book, Shape, noted, holder, remasked, opened, closed, Note, refuse, write}
+use Rattle.demand3.specs.Book.{move, Entry, entered, identified, unwritten}
+use Rattle.demand3.specs.Book.{admitNote, runNote, preemptNote, blockNote, wakeNote, offlineNote, maskNote}
+use Rattle.demand3.specs.Book.{noteOf, offlineLines, movedAll, enter}
 use Rattle.demand3.specs.Lists.{bookAfter}
 use Rattle.demand3.proofs.Notes.{noted-here, noted-there}
 
@@ -110,10 +113,21 @@ module _ (k : Shape) where
       go false = none
   mask-clips l m x Blocked = line x
 
+  request-clips : (b : Book) (i : ℕ) → Clips b → (q : Request) → NoteClips (noteOf k b i q)
+  request-clips b i C Request.Admit = admit-clips (b i) (C .mask i) ((b i) .state)
+  request-clips b i C (Request.Run p now) = run-clips (b i) (C .mask i) p now (some (holder k b p)) ((b i) .state)
+  request-clips b i C (Request.Preempt now) = preempt-clips (b i) (C .mask i) now ((b i) .state)
+  request-clips b i C (Request.Block now) = block-clips (b i) (C .mask i) now ((b i) .state)
+  request-clips b i C Request.Wake = wake-clips (b i) (C .mask i) ((b i) .state)
+  request-clips b i C (Request.SetAffinity m) =
+      mask-clips (b i) (clipped m (k .pcpus)) (mod-lt m (pow-pos (min (k .pcpus) 64))) ((b i) .state)
+  request-clips b i C (Request.Offline now) = offline-clips (b i) now ((b i) .state)
+
   -- ---- each call, whatever moves an advance is handed
 
   -- a call that fails a test writes nothing
-  tested-clips : {b : Book} {e : Entry} (t : Bool) (n : ℕ) → Clips b → EntryClips e → EntryClips (cond t e (unwritten n b))
+  tested-clips : {b : Book} {e : Entry} (t : Bool) (n : ℕ) → Clips b → EntryClips e
+      → EntryClips (cond t e (unwritten n b))
   tested-clips true n C D = D
   tested-clips false n C D = record { clips = C }
 
@@ -124,8 +138,9 @@ module _ (k : Shape) where
   unfolding offlineLines
   first-clips b d now zero C = record { clips = C }
   first-clips b d now (suc n) C =
-      let l = ((offlineLines k b d now n) .book) (d * 8 + n) in
-      record { clips = entered-clips (d * 8 + n) (first-clips b d now n C .clips) (offline-clips l now (l .state)) .clips }
+      let i = d * 8 + n in
+      let D = first-clips b d now n C .clips in
+      record { clips = entered-clips i D (request-clips _ i D (Request.Offline now)) .clips }
 
   moves-clip : (b : Book) (now : ℕ) (cs : List Choice) → Clips b → EntryClips (movedAll b now cs)
   unfolding movedAll
@@ -137,26 +152,13 @@ module _ (k : Shape) where
 
   enter-clips : (b : Book) (c : Call) (ms : List Choice) → Clips b → EntryClips (enter k b c ms)
   unfolding enter
-  enter-clips b (Call.Admit d v) ms C = let i = d * 8 + v in identified-clips d v C (admit-clips (b i) (C .mask i) ((b i) .state))
-  enter-clips b (Call.Run d v p now) ms C =
-      let i = d * 8 + v in
-      tested-clips (ltb p (k .pcpus)) 3 C (identified-clips d v C (run-clips (b i) (C .mask i) p now (some (holder k b p)) ((b i) .state)))
-  enter-clips b (Call.Preempt d v now) ms C = let i = d * 8 + v in identified-clips d v C (preempt-clips (b i) (C .mask i) now ((b i) .state))
-  enter-clips b (Call.Block d v now) ms C = let i = d * 8 + v in identified-clips d v C (block-clips (b i) (C .mask i) now ((b i) .state))
-  enter-clips b (Call.Wake d v) ms C = let i = d * 8 + v in identified-clips d v C (wake-clips (b i) (C .mask i) ((b i) .state))
-  enter-clips b (Call.Offline d v now) ms C = let l = b (d * 8 + v) in identified-clips d v C (offline-clips l now (l .state))
+  enter-clips b (Call.Ask d v q) ms C = tested-clips (reaches q (k .pcpus)) 3 C (identified-clips d v C (request-clips b (d * 8 + v) C q))
   enter-clips b (Call.OfflineAll d now) ms C = tested-clips (ltb d (k .domains)) 0 C (first-clips b d now (k .vcpus) C)
-  enter-clips b (Call.SetAffinity d v m) ms C =
-      let l = b (d * 8 + v) in
-      identified-clips d v C (mask-clips l (clipped m (k .pcpus)) (mod-lt m (pow-pos (min (k .pcpus) 64))) (l .state))
   enter-clips b (Call.SetWeight d v w) ms C = record { clips = C }
   enter-clips b (Call.SetWakeBoost on) ms C = record { clips = C }
   enter-clips b (Call.Advance now) ms C = moves-clip b now ms C
 
-  pub after-clips : (cs : List Call) (h : Host) (b : Book) → Clips b → Clips (bookAfter k h b cs)
+  pub after-clips : (M : Machine) (cs : List Call) (h : M .Host) (b : Book) → Clips b → Clips (bookAfter M k h b cs)
   unfolding bookAfter
-  after-clips [] h b C = C
-  after-clips (c ∷ cs) h b C = after-clips cs _ _ (enter-clips b c ((step h c) .moves) C .clips)
-
-  pub blank-clips : Clips (blankBook k)
-  blank-clips = record { mask = λ i. full-clipped }
+  after-clips M [] h b C = C
+  after-clips M (c ∷ cs) h b C = after-clips M cs _ _ (enter-clips b c (M .moves h c) C .clips)

@@ -5,6 +5,7 @@ use mathlib.Core.Path.{_≡_, refl, sym, _∙_, ap, subst}
 use mathlib.Core.Logic.{_≢_}
 use native.Mathlib.Omega.{arith}
 use native.Mathlib.Decide.{ℕ-discrete}
+use Rattle.masks.specs.Masks.{fullMask}
 use Rattle.system.specs.declared.RunState.{RunState}
 use Rattle.system.specs.declared.RunState.the-variants.{Offline, Runnable, Running, Blocked}
 use Rattle.system.specs.declared.VirtualCpu.{VirtualCpu}
@@ -12,16 +13,18 @@ use Rattle.system.specs.declared.Occupant.{Occupant}
 use Rattle.system.specs.declared.System.{System}
 use Rattle.system.specs.Answers.{SystemOutcome}
 use Rattle.system.specs.Reads.{vcpuAt, fullAffinity, stateAt}
-use Rattle.system.specs.Writes.{Tables, SameShape, shape-refl, shape-trans, Wrote, present-back, present-on, same-pcpus}
+use Rattle.system.specs.Writes.{Tables, SameShape, shape-refl, shape-trans, Wrote, present-back, present-on}
+use Rattle.system.specs.Writes.{same-pcpus}
 use Rattle.system.specs.Slots.{domains, vcpus, slot, Present}
 use Rattle.system.specs.States.{schedulable}
 use Rattle.verdict.specs.Sound.{Sound}
-use Rattle.changes.specs.declared.Request.{Request}
+use Rattle.calls.specs.declared.Request.{Request}
 use Rattle.changes.specs.declared.Change.{Change}
 use Rattle.changes.specs.declared.Change.the-variants.{Refuse, Write, Enter, Leave}
 use Rattle.changes.specs.Records.{left}
 use Rattle.sched.specs.Steps.{requested, offlineFirst, offlineAll}
-use Rattle.sched.proofs.Laws.{Legal, stays, keeps, busy, goes-on, comes-off, requested-case, offline-all-case, made-legal, first-keeps}
+use Rattle.sched.proofs.Laws.{Legal, stays, keeps, busy, goes-on, comes-off, requested-case, offline-all-case}
+use Rattle.sched.proofs.Laws.{made-legal, first-keeps}
 use Rattle.changes.specs.Changes.{blocked, offlined, changed}
 use Rattle.demand3.proofs.Lag.{Pool, Lag}
 
@@ -82,14 +85,16 @@ Leaves (Write v) = schedulable (v .state) ≡ false
 Leaves (Enter v p) = schedulable (v .state) ≡ false
 Leaves (Leave v p) = schedulable (v .state) ≡ false
 
-wrote-shrinks : {s s′ : System} {i p : ℕ} {v : VirtualCpu} {o : Occupant} → Wrote s s′ i v p o → schedulable (v .state) ≡ false → Shrinks s s′
+wrote-shrinks : {s s′ : System} {i p : ℕ} {v : VirtualCpu} {o : Occupant} → Wrote s s′ i v p o
+    → schedulable (v .state) ≡ false → Shrinks s s′
 wrote-shrinks {s} {s′} {i} {p} {v} k n = record { shape = k .shape; same = λ j h q. go j q (ℕ-discrete j i) }
   where
     go : (j : ℕ) → Pool (stateAt s′ j) → Dec (j ≡ i) → vcpuAt s′ j ≡ vcpuAt s j
     go j q (yes e) = absurd (false≢true (sym n ∙ (sym (ap (λ (x : VirtualCpu). schedulable (x .state)) (ap (vcpuAt s′) e ∙ k .here)) ∙ q)))
     go j q (no m) = k .there j m
 
-legal-shrinks : {s : System} {i : ℕ} {c : Change} {r : SystemOutcome} → Tables s → Legal s i c r → Leaves c → Shrinks s (r .system)
+legal-shrinks : {s : System} {i : ℕ} {c : Change} {r : SystemOutcome} → Tables s → Legal s i c r → Leaves c
+    → Shrinks s (r .system)
 legal-shrinks {s} t (stays a) n = shrinks-refl s
 legal-shrinks t (keeps k w) n = wrote-shrinks (w t) n
 legal-shrinks {s} t (busy l e) n = shrinks-refl s
@@ -111,16 +116,17 @@ offlined-leaves v full now (Running p) = refl
 offlined-leaves v full now Blocked = refl
 
 module _ (s : System) (t : Tables s) (S : Sound s) where
-  leaves-shrinks : (d v : ℕ) (q : Request) → ((w : VirtualCpu) (full : ℕ) → Leaves (changed q full w)) → Shrinks s ((requested s d v q) .system)
+  leaves-shrinks : (d v : ℕ) (q : Request) → ((w : VirtualCpu) (n : ℕ) → Leaves (changed q n w))
+      → Shrinks s ((requested s d v q) .system)
   leaves-shrinks d v q n =
       requested-case s (Shrinks s) (shrinks-refl s) d v q
-      (λ h r. legal-shrinks t (made-legal s (slot d v) S h q r) (n (vcpuAt s (slot d v)) (fullAffinity s)))
+      (λ h r. legal-shrinks t (made-legal s (slot d v) S h q r) (n (vcpuAt s (slot d v)) (s .«pcpu_count»)))
 
   pub block-shrinks : (d v now : ℕ) → Shrinks s ((requested s d v (Request.Block now)) .system)
-  block-shrinks d v now = leaves-shrinks d v (Request.Block now) (λ w full. blocked-leaves w now (w .state))
+  block-shrinks d v now = leaves-shrinks d v (Request.Block now) (λ w n. blocked-leaves w now (w .state))
 
   pub offline-shrinks : (d v now : ℕ) → Shrinks s ((requested s d v (Request.Offline now)) .system)
-  offline-shrinks d v now = leaves-shrinks d v (Request.Offline now) (λ w full. offlined-leaves w full now (w .state))
+  offline-shrinks d v now = leaves-shrinks d v (Request.Offline now) (λ w n. offlined-leaves w (fullMask n) now (w .state))
 
   first-shrinks : (d now k : ℕ) → d < domains s → k ≤ vcpus s → Shrinks s (offlineFirst s d now k)
   unfolding offlineFirst

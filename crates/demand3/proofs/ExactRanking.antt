@@ -10,7 +10,7 @@ use Rattle.service.specs.Laws.{below-limit, deserving-exact, product-below}
 use Rattle.system.specs.declared.System.{System}
 use Rattle.system.specs.Records.{runtimeUntil}
 use Rattle.system.specs.Reads.{vcpuAt}
-use Rattle.scan.specs.Scan.{Ranks}
+use Rattle.scans.specs.Scan.{Ranks}
 use Rattle.policy.specs.declared.Scheduler.{Scheduler}
 use Rattle.policy.specs.Accounts.{offsetOf}
 use Rattle.policy.specs.Standing.{weightAt, serviceBy, serviceAt, deserves}
@@ -35,16 +35,19 @@ module _ {s : System} {π : Scheduler} {now : ℕ} (L : Level s π now) where
       ap (λ (o : ℕ). min (rawService s now i + o) (2 ^ 128 - 1)) (L .offsets i)
       ∙ (ap (λ (n : ℕ). min n (2 ^ 128 - 1)) (add-zero (rawService s now i)) ∙ below-limit _ (2 ^ 128) (lt-of-lt-of-le (L .services i) (lit≤ tt)))
 
-  pub beats-exact : (i j : ℕ) → beats (ruleOf π) s now i j ≡ ltb (rawService s now i * weightAt π j) (rawService s now j * weightAt π i)
+  pub beats-exact : (i j : ℕ)
+      → beats (ruleOf π) s now i j ≡ ltb (rawService s now i * weightAt π j) (rawService s now j * weightAt π i)
   beats-exact i j =
       ap₂ (λ (a b : ℕ). moreDeserving a (weightAt π i) b (weightAt π j)) (service-raw i) (service-raw j)
       ∙ deserving-exact (rawService s now i) (weightAt π i) (rawService s now j) (weightAt π j)
       (product-below _ _ (L .services i) (L .weights j)) (product-below _ _ (L .services j) (L .weights i))
 
-  pub beats-before : (i j : ℕ) → beats (ruleOf π) s now i j ≡ true → rawService s now i * weightAt π j < rawService s now j * weightAt π i
+  pub beats-before : (i j : ℕ) → beats (ruleOf π) s now i j ≡ true
+      → rawService s now i * weightAt π j < rawService s now j * weightAt π i
   beats-before i j e = ltb-true _ _ (sym (beats-exact i j) ∙ e)
 
-  pub beats-not : (i j : ℕ) → beats (ruleOf π) s now i j ≡ false → rawService s now j * weightAt π i ≤ rawService s now i * weightAt π j
+  pub beats-not : (i j : ℕ) → beats (ruleOf π) s now i j ≡ false
+      → rawService s now j * weightAt π i ≤ rawService s now i * weightAt π j
   beats-not i j e = ltb-false _ _ (sym (beats-exact i j) ∙ e)
 
   pub level-ranks : {P : ℕ → Type 0} → Ranks P (beats (ruleOf π) s now)

@@ -6,22 +6,18 @@ use native.Mathlib.Nat.{min-eq-left}
 use native.Mathlib.Omega.{arith}
 use lib.Dec.{ltb}
 use borrow.Author.Tests.{ltb-true, lt-ltb, eq-eqb}
-use Rattle.scan.specs.Booleans.{both}
+use Rattle.scans.specs.Booleans.{both}
 use Rattle.system.specs.declared.RunState.the-variants.{Running}
 use Rattle.system.specs.declared.Occupant.{Occupant}
 use Rattle.system.specs.declared.Occupant.the-variants.{Idle, Vcpu}
 use Rattle.system.specs.declared.System.{System}
-use Rattle.system.specs.Reads.{vcpuAt, occupantAt, isIdle}
+use Rattle.system.specs.Reads.{occupantAt, isIdle}
 use Rattle.system.specs.Slots.{domains, vcpus, pcpus, slot, Present}
 use Rattle.system.specs.States.{runsOn, runs-on}
 use Rattle.verdict.specs.Sound.{Sound}
-use Rattle.scan.specs.Scan.{Pick, nobody, at, some, scan, scan-sound, scan-complete, never}
+use Rattle.scans.specs.Scan.{Pick, nobody, at, some, scan, scan-sound, scan-complete, never}
 use Rattle.demand3.specs.Book.{Book, Shape, holder, occupantBy}
-use Rattle.demand3.specs.Agreement.{Says, PresentIn, Shaped, Agrees}
-
--- what the book says of each vCPU that the system has
-pub record Lines (b : Book) (s : System) : Type 0 where
-  pub says : (i : ℕ) → Present s i → Says (b i) (vcpuAt s i)
+use Rattle.demand3.specs.Agreement.{PresentIn, Shaped, Agrees, Lines}
 
 -- in a sound system whoever is Running on a pCPU holds it, and only that one
 pub holder-agrees : (k : Shape) (b : Book) (s : System) (p : ℕ) → Shaped k s → Sound s → Lines b s → p < k .pcpus
@@ -69,7 +65,8 @@ holder-runs k b p i e =
     (record { domain = omega arith; vcpu = ltb-true (i % 8) (k .vcpus) (g .0) }, runs-on p _ (g .1))
 
 -- and where there is none, nobody is
-pub nobody-runs : (k : Shape) (b : Book) (p i : ℕ) → holder k b p ≡ nobody → PresentIn k i → (b i) .state ≡ Running p → ⊥
+pub nobody-runs : (k : Shape) (b : Book) (p i : ℕ) → holder k b p ≡ nobody → PresentIn k i
+    → (b i) .state ≡ Running p → ⊥
 unfolding holder
 nobody-runs k b p i e x on =
     let r : runsOn p ((b i) .state) ≡ true = ap (runsOn p) on ∙ eq-eqb p p refl in

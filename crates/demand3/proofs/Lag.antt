@@ -5,7 +5,7 @@ use mathlib.Core.Path.{_≡_, refl, sym, _∙_, ap, subst}
 use mathlib.Core.Logic.{_≢_}
 use native.Mathlib.Omega.{arith}
 use native.Mathlib.Decide.{ℕ-discrete}
-use Rattle.scan.specs.Booleans.{zero-one}
+use Rattle.scans.specs.Booleans.{zero-one}
 use Rattle.system.specs.declared.RunState.{RunState}
 use Rattle.system.specs.declared.RunState.the-variants.{Runnable, Running}
 use Rattle.system.specs.declared.VirtualCpu.{VirtualCpu}
@@ -44,7 +44,8 @@ pub record Lag (w : ℕ → ℕ) (lim : ℕ) (s : System) (now : ℕ) : Type 0 w
   pub full : (i p : ℕ) → Present s i → p < pcpus s → Pool (stateAt s i) → admits s i p ≡ true
   -- clocks have not run back, so no run time reaches its ceiling before the clock does
   pub past : (i p : ℕ) → Present s i → stateAt s i ≡ Running p → (vcpuAt s i) .«dispatched_at» ≤ now
-  pub early : (i p : ℕ) → Present s i → stateAt s i ≡ Running p → (vcpuAt s i) .runtime ≤ (vcpuAt s i) .«dispatched_at»
+  pub early : (i p : ℕ) → Present s i → stateAt s i ≡ Running p
+      → (vcpuAt s i) .runtime ≤ (vcpuAt s i) .«dispatched_at»
   pub spare : (i : ℕ) → Present s i → stateAt s i ≡ Runnable → (vcpuAt s i) .runtime ≤ now
 
 -- ---- service while waiting and while running
@@ -53,14 +54,16 @@ pub raw-waiting : (s : System) (now i : ℕ) → stateAt s i ≡ Runnable → ra
 unfolding inFlight
 raw-waiting s now i e = rw (ap (flight (vcpuAt s i) now) e) (omega arith)
 
-pub raw-running : (s : System) (now i p : ℕ) → stateAt s i ≡ Running p → rawService s now i ≡ (vcpuAt s i) .runtime + elapsed (vcpuAt s i) now
+pub raw-running : (s : System) (now i p : ℕ) → stateAt s i ≡ Running p
+    → rawService s now i ≡ (vcpuAt s i) .runtime + elapsed (vcpuAt s i) now
 unfolding inFlight
 raw-running s now i p e = rw (ap (flight (vcpuAt s i) now) e)
 
 state-here : {s s′ : System} {i p : ℕ} {v : VirtualCpu} {o : Occupant} → Wrote s s′ i v p o → stateAt s′ i ≡ v .state
 state-here k = ap (λ (x : VirtualCpu). x .state) (k .here)
 
-state-there : {s s′ : System} {i p : ℕ} {v : VirtualCpu} {o : Occupant} → Wrote s s′ i v p o → (a : ℕ) → a ≢ i → stateAt s′ a ≡ stateAt s a
+state-there : {s s′ : System} {i p : ℕ} {v : VirtualCpu} {o : Occupant} → Wrote s s′ i v p o → (a : ℕ) → a ≢ i
+    → stateAt s′ a ≡ stateAt s a
 state-there k a n = ap (λ (x : VirtualCpu). x .state) (k .there a n)
 
 raw-there : {s s′ : System} {i p : ℕ} {v : VirtualCpu} {o : Occupant} (now : ℕ) → Wrote s s′ i v p o → (a : ℕ) → a ≢ i
@@ -69,7 +72,8 @@ raw-there now k a n = ap (λ (x : VirtualCpu). runtimeUntil x now) (k .there a n
 
 module _ (w : ℕ → ℕ) (pos : (i : ℕ) → 0 < w i) (lim : ℕ) where
   -- a preemption, in favour of k, who waits and is before i
-  pub off-lag : {s s′ : System} {i p : ℕ} (now k : ℕ) → now < 2 ^ 64 → Lag w lim s now → Present s i → stateAt s i ≡ Running p
+  pub off-lag : {s s′ : System} {i p : ℕ} (now k : ℕ) → now < 2 ^ 64 → Lag w lim s now → Present s i
+      → stateAt s i ≡ Running p
       → Wrote s s′ i (left (vcpuAt s i) Runnable now) p Idle → Present s k → stateAt s k ≡ Runnable
       → rawService s now k * w i < rawService s now i * w k → Lag w lim s′ now
   unfolding left
@@ -115,8 +119,8 @@ module _ (w : ℕ → ℕ) (pos : (i : ℕ) → 0 < w i) (lim : ℕ) where
           rw x (lag-trans (rawService s now a) (w a) (rawService s now k) (w k) (rawService s now i) (w i) lim (pos k) (L .lag a k ha hk h kw) wins)
       lag′ a j ha hj h e (no n) = L .lag a j ha hj h (sym (state-there q j n) ∙ e)
 
-      base″ : (a j x : ℕ) → Present s a → Present s j → stateAt s a ≡ Running x → stateAt s′ j ≡ Runnable → Dec (j ≡ i)
-          → (vcpuAt s a) .runtime * w j ≤ rawService s now j * w a
+      base″ : (a j x : ℕ) → Present s a → Present s j → stateAt s a ≡ Running x → stateAt s′ j ≡ Runnable
+          → Dec (j ≡ i) → (vcpuAt s a) .runtime * w j ≤ rawService s now j * w a
       base″ a j x ha hj h e (yes y) =
           rw y (base-trans ((vcpuAt s a) .runtime) (w a) (rawService s now k) (w k) (rawService s now i) (w i) (pos k) (L .base a k x ha hk h kw) wins)
       base″ a j x ha hj h e (no n) = L .base a j x ha hj h (sym (state-there q j n) ∙ e)
@@ -142,7 +146,8 @@ module _ (w : ℕ → ℕ) (pos : (i : ℕ) → 0 < w i) (lim : ℕ) where
   -- a dispatch, of one that nobody who waits is before
   pub on-lag : {s s′ : System} {i p : ℕ} {o : Occupant} (now : ℕ) → Lag w lim s now → CanRun s i p
       → Wrote s s′ i (dispatched (vcpuAt s i) p now) p o
-      → ((j : ℕ) → Present s j → stateAt s j ≡ Runnable → rawService s now i * w j ≤ rawService s now j * w i) → Lag w lim s′ now
+      → ((j : ℕ) → Present s j → stateAt s j ≡ Runnable → rawService s now i * w j ≤ rawService s now j * w i)
+      → Lag w lim s′ now
   unfolding dispatched
   on-lag {s} {s′} {i} {p} now L c q least =
       record {
@@ -183,8 +188,8 @@ module _ (w : ℕ → ℕ) (pos : (i : ℕ) → 0 < w i) (lim : ℕ) where
       waited : (a : ℕ) → stateAt s′ a ≡ Runnable → stateAt s a ≡ Runnable
       waited a h = sym (state-there q a (not-i a h)) ∙ h
 
-      base′ : (a j x : ℕ) → Present s a → Present s j → stateAt s′ a ≡ Running x → stateAt s′ j ≡ Runnable → Dec (a ≡ i)
-          → (vcpuAt s′ a) .runtime * w j ≤ rawService s′ now j * w a
+      base′ : (a j x : ℕ) → Present s a → Present s j → stateAt s′ a ≡ Running x → stateAt s′ j ≡ Runnable
+          → Dec (a ≡ i) → (vcpuAt s′ a) .runtime * w j ≤ rawService s′ now j * w a
       base′ a j x ha hj h e (yes y) = rw (y, time, ← raw-waiting s now i (c .ready), same j) (least j hj (waited j e))
       base′ a j x ha hj h e (no n) = let f = q .there a n in rw (f, same j) (L .base a j x ha hj (sym (state-there q a n) ∙ h) (waited j e))
 
@@ -199,6 +204,7 @@ module _ (w : ℕ → ℕ) (pos : (i : ℕ) → 0 < w i) (lim : ℕ) where
       past′ a x ha h (yes e) = rw e (omega (arith, clock))
       past′ a x ha h (no n) = let f = q .there a n in rw f (L .past a x ha (sym (state-there q a n) ∙ h))
 
-      early′ : (a x : ℕ) → Present s a → stateAt s′ a ≡ Running x → Dec (a ≡ i) → (vcpuAt s′ a) .runtime ≤ (vcpuAt s′ a) .«dispatched_at»
+      early′ : (a x : ℕ) → Present s a → stateAt s′ a ≡ Running x → Dec (a ≡ i)
+          → (vcpuAt s′ a) .runtime ≤ (vcpuAt s′ a) .«dispatched_at»
       early′ a x ha h (yes e) = rw e (omega (arith, clock, time, L .spare i (c .present) (c .ready)))
       early′ a x ha h (no n) = let f = q .there a n in rw f (L .early a x ha (sym (state-there q a n) ∙ h))

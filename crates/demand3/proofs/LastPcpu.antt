@@ -6,33 +6,35 @@ use mathlib.Core.List.{List, [], _∷_}
 use native.Mathlib.Decide.{ℕ-discrete}
 use lib.Dec.{eqb}
 use borrow.Author.Tests.{eq-eqb, ne-eqb}
-use Rattle.masks.specs.Masks.{clipped}
 use Rattle.system.specs.declared.VirtualCpu.{VirtualCpu}
 use Rattle.system.specs.declared.Occupant.{Occupant}
 use Rattle.system.specs.declared.System.{System}
+use Rattle.system.specs.Answers.{SystemOutcome}
 use Rattle.system.specs.Reads.{lastAt}
-use Rattle.system.specs.Writes.{Wrote, present-on}
-use Rattle.system.specs.Slots.{slot-below}
-use Rattle.changes.specs.declared.Request.{Request}
+use Rattle.system.specs.Writes.{Wrote}
 use Rattle.changes.specs.Records.{dispatched, left}
-use Rattle.sched.specs.Steps.{requested}
-use Rattle.sched.proofs.Laws.{off-nr, ready-nr, fresh-vcpu}
+use Rattle.sched.proofs.Laws.{off-nr, ready-nr}
 use Rattle.moves.specs.declared.Choice.{Choice}
-use Rattle.rules.specs.Rules.{Rule}
-use Rattle.rules.proofs.Laws.{Trace, rest, run, preempt, run-wrote, preempt-wrote, trace-keeps}
-use Rattle.host.specs.declared.Host.{Host}
-use Rattle.host.specs.declared.Call.{Call}
-use Rattle.host.specs.Step.{step, hostAfter, freshHost}
+use Rattle.rules.proofs.Laws.{run-wrote, preempt-wrote}
+use Rattle.calls.specs.declared.Call.{Call}
+use Rattle.demand3.specs.Machine.{Machine}
+use Rattle.demand3.specs.Lawful.{Enacts, rests, runs, preempts, Makes, Lawful}
+use Rattle.demand3.specs.ServiceMachine.{serviceMachine}
 use Rattle.demand3.specs.Dated.{Direction, onto, off, Dated, dated}
-use Rattle.demand3.specs.Book.{Book, Shape, blankBook, movedAll, enter}
-use Rattle.demand3.specs.Agreement.{PresentIn}
-use Rattle.demand3.specs.Lists.{entryOf}
-use Rattle.demand3.specs.LastPcpu.{arrived, latestOnto, unlessOffline, lastAfter, LastKept, EveryLastKept}
-use Rattle.demand3.proofs.InStep.{InStep}
-use Rattle.demand3.proofs.EveryCall.{Kept, run-in-step, preempt-in-step, advance-traced, step-goes}
-use Rattle.demand3.proofs.Conclusions.{fresh-kept, exists}
-use Rattle.demand3.proofs.LastRecords.{Right, kept-right, on-right}
-use Rattle.demand3.proofs.LastRequests.{Rights, Follows, ofRecord, wrote-rights, same-last, unwritten-follows, requested-follows, offline-all-follows}
+use Rattle.demand3.specs.Book.{Book, Shape, Entry, blankBook, movedAll, enter}
+use Rattle.demand3.specs.Agreement.{PresentIn, InStep}
+use Rattle.demand3.specs.Lists.{afterAll, entryOf}
+use Rattle.demand3.specs.Fresh.{firstHost, hostAt}
+use Rattle.demand3.specs.LastPcpu.{arrived, latestOnto, unlessOffline, lastAfter, LastKept, EveryPointKeepsLast}
+use Rattle.demand3.specs.LastPcpu.{EveryLastKept}
+use Rattle.demand3.proofs.Holders.{shaped-present}
+use Rattle.demand3.proofs.EveryCall.{Kept, run-in-step, preempt-in-step, step-goes}
+use Rattle.demand3.proofs.ServiceMachine.{service-lawful}
+use Rattle.demand3.proofs.Entering.{present-exists}
+use Rattle.demand3.proofs.FreshHost.{fresh-in-step, fresh-last}
+use Rattle.demand3.proofs.LastRecords.{kept-right, on-right}
+use Rattle.demand3.proofs.LastRequests.{Rights, Follows, ofRecord, wrote-rights, same-last, unwritten-follows}
+use Rattle.demand3.proofs.LastRequests.{requested-follows, offline-all-follows}
 
 -- ---- an advance
 
@@ -52,84 +54,87 @@ moved-then {s} {s′} {i = i} {ms = ms} w p now k f m =
     go j (yes e) = rw (e, eq-eqb i i refl) (ap ofRecord (k .here) ∙ f)
     go j (no n) = rw (ne-eqb j i n) (ap ofRecord (k .there j n))
 
-trace-moved : {k : Shape} {ρ : Rule} {now : ℕ} {s t : System} {cs : List Choice} {b : Book} → Trace ρ now s cs t → InStep k b s → Rights s
-    → MovesLeave s t ((movedAll b now cs) .moves)
+enacts-moved : {k : Shape} {now : ℕ} {s t : System} {cs : List Choice} {b : Book} → Enacts now s cs t → InStep k b s
+    → Rights s → MovesLeave s t ((movedAll b now cs) .moves)
 unfolding movedAll latestOnto dispatched left
-trace-moved rest T Y = record { last = λ j. refl; rights = Y }
-trace-moved {now = now} (run {s} {i = i} {p = p} e c r) T Y =
+enacts-moved rests T Y = record { last = λ j. refl; rights = Y }
+enacts-moved {now = now} (runs {s} {i = i} {p = p} c r) T Y =
     let w = run-wrote s now i p (T .tables) c in
-    moved-then onto p now w refl (trace-moved r (run-in-step T now i p c) (wrote-rights Y w (on-right refl refl)))
-trace-moved {now = now} (preempt {s} {i = i} {p = p} e c r) T Y =
-    let w = preempt-wrote s now i p (T .tables) (T .sound) (c .present) (c .on) in
-    let y = kept-right refl (λ q x. absurd (ready-nr q x)) (Y .right i (c .present)) in
-    moved-then off p now w refl (trace-moved r (preempt-in-step T now i p (c .present) (c .on)) (wrote-rights Y w y))
-
-advance-follows : {k : Shape} {b : Book} {h : Host} (now : ℕ) → Kept k b h → Rights (h .system)
-    → Follows (h .system) ((step h (Call.Advance now)) .host .system) (entryOf k h b (Call.Advance now))
-unfolding enter
-advance-follows {k} {b} {h} now K Y =
-    let A = advance-traced now K in
-    let m = trace-moved (A .trace) (K .in-step) Y in
-    let T = step-goes (Call.Advance now) K .kept .in-step in
-    let x = trace-keeps (A .trace) (K .in-step .tables) (K .in-step .sound) in
-    let e = entryOf k h b (Call.Advance now) in
-    record {
-      last = λ j y. same-last (T .lines) (m .rights) j (present-on (x .shape) y) ∙ ap (unlessOffline ((e .book j) .state)) (m .last j);
-      rights = m .rights;
-    }
+    moved-then onto p now w refl (enacts-moved r (run-in-step T now i p c) (wrote-rights Y w (on-right refl refl)))
+enacts-moved {now = now} (preempts {s} {i = i} {p = p} h on r) T Y =
+    let w = preempt-wrote s now i p (T .tables) (T .sound) h on in
+    let y = kept-right refl (λ q x. absurd (ready-nr q x)) (Y .right i h) in
+    moved-then off p now w refl (enacts-moved r (preempt-in-step T now i p h on) (wrote-rights Y w y))
 
 -- ---- each call
 
-step-follows : {k : Shape} {b : Book} {h : Host} (c : Call) → Kept k b h → Rights (h .system)
-    → Follows (h .system) ((step h c) .host .system) (entryOf k h b c)
-unfolding step enter
-step-follows (Call.Admit d v) K Y = requested-follows (K .in-step) Y d v _
-step-follows (Call.Run d v p now) K Y = requested-follows (K .in-step) Y d v _
-step-follows (Call.Preempt d v now) K Y = requested-follows (K .in-step) Y d v _
-step-follows (Call.Block d v now) K Y = requested-follows (K .in-step) Y d v _
-step-follows (Call.Wake d v) K Y = requested-follows (K .in-step) Y d v _
-step-follows (Call.Offline d v now) K Y = requested-follows (K .in-step) Y d v _
-step-follows (Call.OfflineAll d now) K Y = offline-all-follows (K .in-step) Y d now
-step-follows {k} {b} {h} (Call.SetAffinity d v m) K Y =
-    subst (λ (n : ℕ). Follows (h .system) ((requested (h .system) d v (Request.SetAffinity (clipped m n))) .system) (enter k b (Call.SetAffinity d v m) []))
-    (sym (K .in-step .shaped .pcpus)) (requested-follows (K .in-step) Y d v (Request.SetAffinity (clipped m (k .pcpus))))
-step-follows (Call.SetWeight d v w) K Y = unwritten-follows (K .in-step .lines) Y 0
-step-follows (Call.SetWakeBoost on) K Y = unwritten-follows (K .in-step .lines) Y 0
-step-follows (Call.Advance now) K Y = advance-follows now K Y
+by-mechanism : {M : Machine} {h : M .Host} {c : Call} {r : SystemOutcome} {e : Entry} → Makes M h c r
+    → Follows (M .system h) (r .system) e → Follows (M .system h) (M .system (M .after h c)) e
+by-mechanism {M} {h} {e = e} m F = subst (λ (s : System). Follows (M .system h) s e) (sym (m .system)) F
 
--- ---- every list
+module _ {M : Machine} (L : Lawful M) where
+  advance-follows : {k : Shape} {b : Book} {h : M .Host} (now : ℕ) → Kept M k b h → Rights (M .system h)
+      → Follows (M .system h) (M .system (M .after h (Call.Advance now))) (entryOf M k h b (Call.Advance now))
+  unfolding enter
+  advance-follows {k} {b} {h} now K Y =
+      let S = K .in-step in
+      let m = enacts-moved (L .advance h now (S .tables) (S .sound) .enacts) S Y in
+      let T = step-goes L (Call.Advance now) K .kept .in-step in
+      let e = entryOf M k h b (Call.Advance now) in
+      record {
+        last = λ j y.
+            same-last (T .lines) (m .rights) j (shaped-present (T .shaped) (T .sound) (present-exists S y))
+            ∙ ap (unlessOffline ((e .book j) .state)) (m .last j);
+        rights = m .rights;
+      }
 
-after-last : {k : Shape} (cs : List Call) (h : Host) (b : Book) → Kept k b h → Rights (h .system) → (i : ℕ) → PresentIn k i
-    → LastKept ((hostAfter h cs) .system) i (lastAfter k h b i (lastAt (h .system) i) cs)
-unfolding hostAfter lastAfter
-after-last [] h b K Y i x =
-    let y = Y .right i (exists K x) in
-    record { last = refl; running = y .running; offline = y .offline }
-after-last {k} (c ∷ cs) h b K Y i x =
-    let F = step-follows c K Y in
-    let n = (step h c) .host in
-    let e = entryOf k h b c in
-    subst (λ (l : ℕ). LastKept ((hostAfter n cs) .system) i (lastAfter k n (e .book) i l cs)) (F .last i (exists K x))
-    (after-last cs n (e .book) (step-goes c K .kept) (F .rights) i x)
+  step-follows : {k : Shape} {b : Book} {h : M .Host} (c : Call) → Kept M k b h → Rights (M .system h)
+      → Follows (M .system h) (M .system (M .after h c)) (entryOf M k h b c)
+  unfolding enter
+  step-follows {h = h} (Call.Ask d v q) K Y = by-mechanism (L .ask h d v q) (requested-follows (K .in-step) Y d v q)
+  step-follows {h = h} (Call.OfflineAll d now) K Y = by-mechanism (L .offline-all h d now) (offline-all-follows (K .in-step) Y d now)
+  step-follows {h = h} (Call.SetWeight d v w) K Y = by-mechanism (L .weight h d v w) (unwritten-follows (K .in-step .lines) Y 0)
+  step-follows {h = h} (Call.SetWakeBoost on) K Y = by-mechanism (L .boost h on) (unwritten-follows (K .in-step .lines) Y 0)
+  step-follows (Call.Advance now) K Y = advance-follows now K Y
+
+  -- ---- every list
+
+  after-last : {k : Shape} (cs : List Call) (h : M .Host) (b : Book) → Kept M k b h → Rights (M .system h) → (i : ℕ)
+      → PresentIn k i → LastKept (M .system (afterAll M h cs)) i (lastAfter M k h b i (lastAt (M .system h) i) cs)
+  unfolding afterAll lastAfter
+  after-last [] h b K Y i x =
+      let y = Y .right i (shaped-present (K .in-step .shaped) (K .in-step .sound) x) in
+      record { last = refl; running = y .running; offline = y .offline }
+  after-last {k} (c ∷ cs) h b K Y i x =
+      let F = step-follows c K Y in
+      let n = M .after h c in
+      let e = entryOf M k h b c in
+      subst (λ (l : ℕ). LastKept (M .system (afterAll M n cs)) i (lastAfter M k n (e .book) i l cs))
+      (F .last i (shaped-present (K .in-step .shaped) (K .in-step .sound) x))
+      (after-last cs n (e .book) (step-goes L c K .kept) (F .rights) i x)
+
+  pub machine-keeps-last : EveryPointKeepsLast M
+  machine-keeps-last k b h T at-first cs i x = after-last cs h b (record { in-step = T }) rights i x
+    where
+      rights : Rights (M .system h)
+      rights =
+          record { right = λ j y. let z = at-first j (present-exists T y) in record { running = z .running; offline = z .offline } }
 
 pub last-kept : EveryLastKept
-last-kept d v p e u q hd hv hp cs i x =
-    subst (λ (l : ℕ). LastKept ((hostAfter h cs) .system) i (lastAfter k h (blankBook k) i l cs))
-    (ap ofRecord (fresh-vcpu d v p i (slot-below (exists start x)))) (after-last cs h (blankBook k) start rights i x)
+last-kept f cs i x =
+    subst
+    (λ (l : ℕ). LastKept ((hostAt f cs) .system) i (lastAfter serviceMachine (f .shape) (firstHost f) (blankBook (f .shape)) i l cs))
+    (fresh-last f i x)
+    (machine-keeps-last service-lawful (f .shape) (blankBook (f .shape)) (firstHost f) (fresh-in-step f) at-first cs i x)
   where
-    k : Shape
-    k = record { domains = d; vcpus = v; pcpus = p }
-
-    h : Host
-    h = freshHost d v p e u q
-
-    start : Kept k (blankBook k) h
-    start = fresh-kept d v p e u q hd hv hp
-
     -- all are Offline, and were on none
-    rights : Rights (h .system)
-    rights =
+    at-first : (j : ℕ) → PresentIn (f .shape) j
+        → LastKept ((firstHost f) .system) j (lastAt ((firstHost f) .system) j)
+    at-first j y =
+        let T = fresh-in-step f in
+        let h = shaped-present (T .shaped) (T .sound) y in
         record {
-          right = λ j y.
-              subst Right (sym (fresh-vcpu d v p j (slot-below y))) (record { running = λ r f. absurd (off-nr r f); offline = λ f. refl });
+          last = refl;
+          running = λ p e. absurd (off-nr p (T .lines .says j h .state ∙ e));
+          offline = λ e. fresh-last f j y;
         }

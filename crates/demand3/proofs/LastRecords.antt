@@ -1,14 +1,15 @@
--- What a request makes of the pCPU that a record was last on: kept, but for a dispatch and for one that goes Offline. Assumes nothing.
+-- What a request makes of the pCPU that a record was last on: kept, but for a dispatch and for one that goes Offline.
+-- Assumes nothing.
 use Prim.Native.Nat.{ℕ}
 use mathlib.Core.Bool.{Bool, true, false, cond}
 use mathlib.Core.Path.{_≡_, refl, sym, _∙_, ap}
-use Rattle.masks.specs.Masks.{permits}
+use Rattle.masks.specs.Masks.{permits, fullMask, clipped}
 use Rattle.system.specs.declared.RunState.{RunState}
 use Rattle.system.specs.declared.RunState.the-variants.{Offline, Runnable, Running, Blocked}
 use Rattle.system.specs.declared.VirtualCpu.{VirtualCpu}
 use Rattle.system.specs.declared.Answer.the-variants.{NotAffine}
 use Rattle.system.specs.Records.{noPcpu, withMask}
-use Rattle.changes.specs.declared.Request.{Request}
+use Rattle.calls.specs.declared.Request.{Request}
 use Rattle.changes.specs.declared.Change.{Change}
 use Rattle.changes.specs.declared.Change.the-variants.{Refuse, Write, Enter, Leave}
 use Rattle.changes.specs.Records.{dispatched, left}
@@ -36,7 +37,8 @@ right-offline {v} y = go (v .state) (y .offline)
 abbrev pub KeepsLast : VirtualCpu → VirtualCpu → Type 0
 KeepsLast v w = w .last ≡ unlessOffline (w .state) (v .last)
 
-pub kept-right : {v w : VirtualCpu} → KeepsLast v w → ((p : ℕ) → w .state ≡ Running p → v .state ≡ Running p) → Right v → Right w
+pub kept-right : {v w : VirtualCpu} → KeepsLast v w → ((p : ℕ) → w .state ≡ Running p → v .state ≡ Running p)
+    → Right v → Right w
 kept-right {v} {w} k was y =
     record { running = λ p e. with-state e ∙ y .running p (was p e); offline = λ e. with-state e }
   where
@@ -112,11 +114,11 @@ module _ (v : VirtualCpu) where
       go false = tt
   masked-last y m Blocked = sym (right-offline y)
 
-  pub changed-last : Right v → (q : Request) (full : ℕ) → LastIn v (changed q full v)
-  changed-last y Request.Admit full = admitted-last (v .state)
-  changed-last y (Request.Run p now) full = ran-last p now (v .state)
-  changed-last y (Request.Preempt now) full = preempted-last now (v .state)
-  changed-last y (Request.Block now) full = blocked-last now (v .state)
-  changed-last y Request.Wake full = woken-last (v .state)
-  changed-last y (Request.SetAffinity m) full = masked-last y m (v .state)
-  changed-last y (Request.Offline now) full = offlined-last full now (v .state)
+  pub changed-last : Right v → (q : Request) (n : ℕ) → LastIn v (changed q n v)
+  changed-last y Request.Admit n = admitted-last (v .state)
+  changed-last y (Request.Run p now) n = ran-last p now (v .state)
+  changed-last y (Request.Preempt now) n = preempted-last now (v .state)
+  changed-last y (Request.Block now) n = blocked-last now (v .state)
+  changed-last y Request.Wake n = woken-last (v .state)
+  changed-last y (Request.SetAffinity m) n = masked-last y (clipped m n) (v .state)
+  changed-last y (Request.Offline now) n = offlined-last (fullMask n) now (v .state)

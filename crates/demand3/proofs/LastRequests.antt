@@ -1,4 +1,5 @@
--- A request and `offline_all` leave in each record the pCPU that the calls say the vCPU was last dispatched onto. Assumes nothing.
+-- A request and `offline_all` leave in each record the pCPU that the calls say the vCPU was last dispatched onto.
+-- Assumes nothing.
 use Prim.Native.Nat.{ℕ, zero, suc, _≤_, _<_}
 use mathlib.Core.Bool.{Bool, true, false, cond, not}
 use mathlib.Core.Path.{_≡_, refl, sym, _∙_, ap, subst}
@@ -16,21 +17,22 @@ use Rattle.system.specs.declared.Occupant.{Occupant}
 use Rattle.system.specs.declared.System.{System}
 use Rattle.system.specs.declared.Answer.{Answer}
 use Rattle.system.specs.Answers.{told, SystemOutcome}
-use Rattle.system.specs.Reads.{vcpuAt, lastAt, isIdle, fullAffinity}
+use Rattle.system.specs.Reads.{vcpuAt, lastAt, isIdle}
 use Rattle.system.specs.Writes.{Tables, Wrote, present-back, present-on}
 use Rattle.system.specs.Slots.{domains, vcpus, pcpus, slot, Present}
-use Rattle.changes.specs.declared.Request.{Request}
+use Rattle.calls.specs.declared.Request.{Request}
 use Rattle.changes.specs.declared.Change.{Change}
 use Rattle.changes.specs.Changes.{reaches}
 use Rattle.sched.specs.Steps.{made, requested, offlineFirst, offlineAll}
 use Rattle.sched.proofs.Laws.{Legal, stays, keeps, busy, goes-on, comes-off, made-legal, first-keeps}
 use Rattle.demand3.specs.Dated.{onto, off, Dated, dated}
-use Rattle.demand3.specs.Book.{Line, Book, Shape, noted, Note, Entry, unwritten, entered, joined, identified, offlineNote, offlineLines}
-use Rattle.demand3.specs.Agreement.{Says}
+use Rattle.demand3.specs.Book.{Line, Book, Shape, noted, Note, Entry, unwritten, entered, joined, identified}
+use Rattle.demand3.specs.Book.{offlineNote, noteOf, offlineLines}
+use Rattle.demand3.specs.Agreement.{LineSays, Lines, InStep}
 use Rattle.demand3.specs.LastPcpu.{latestOnto, unlessOffline, lastBy}
-use Rattle.demand3.proofs.Holders.{Lines}
-use Rattle.demand3.proofs.Notes.{Match, both-refuse, both-write, both-enter, both-leave, noted-here, noted-there}
-use Rattle.demand3.proofs.InStep.{InStep, note, made-match, requested-by, offline-all-by, first-alike}
+use Rattle.demand3.proofs.Notes.{Match, both-refuse, both-write, both-enter, both-leave, noted-here}
+use Rattle.demand3.proofs.Notes.{noted-there}
+use Rattle.demand3.proofs.InStep.{made-match, requested-by, offline-all-by, first-alike}
 use Rattle.demand3.proofs.EveryCall.{still-in-step}
 use Rattle.demand3.proofs.LastRecords.{Right, right-offline, kept-right, on-right, LastIn, changed-last}
 
@@ -47,7 +49,8 @@ pub record Follows (s s′ : System) (e : Entry) : Type 0 where
 abbrev pub ofRecord : VirtualCpu → ℕ
 ofRecord v = v .last
 
-pub wrote-rights : {s s′ : System} {i p : ℕ} {v : VirtualCpu} {o : Occupant} → Rights s → Wrote s s′ i v p o → Right v → Rights s′
+pub wrote-rights : {s s′ : System} {i p : ℕ} {v : VirtualCpu} {o : Occupant} → Rights s → Wrote s s′ i v p o
+    → Right v → Rights s′
 wrote-rights {s} {s′} {i} {v = v} Y w y = record { right = λ j h. go j h (ℕ-discrete j i) }
   where
     go : (j : ℕ) → Present s′ j → Dec (j ≡ i) → Right (vcpuAt s′ j)
@@ -67,8 +70,9 @@ module _ {b : Book} {s : System} (L : Lines b s) (Y : Rights s) where
   unwritten-follows n = record { last = same-last; rights = Y }
 
   -- a record and its line are written, with moves of its slot alone
-  wrote-last : {s′ : System} {i p : ℕ} {v : VirtualCpu} {o : Occupant} {l : Line} (ms : List Dated) → Wrote s s′ i v p o → Says l v
-      → ((j : ℕ) → j ≢ i → latestOnto j (lastAt s j) ms ≡ lastAt s j) → v .last ≡ unlessOffline (v .state) (latestOnto i (lastAt s i) ms)
+  wrote-last : {s′ : System} {i p : ℕ} {v : VirtualCpu} {o : Occupant} {l : Line} (ms : List Dated)
+      → Wrote s s′ i v p o → LineSays l v → ((j : ℕ) → j ≢ i → latestOnto j (lastAt s j) ms ≡ lastAt s j)
+      → v .last ≡ unlessOffline (v .state) (latestOnto i (lastAt s i) ms)
       → (j : ℕ) → Present s j → lastAt s′ j ≡ unlessOffline ((noted b i l j) .state) (latestOnto j (lastAt s j) ms)
   wrote-last {s′} {i} {v = v} {l = l} ms w y there here j h = go (ℕ-discrete j i)
     where
@@ -77,8 +81,8 @@ module _ {b : Book} {s : System} (L : Lines b s) (Y : Rights s) where
       go (no n) = rw (noted-there b i l j n, there j n) (ap ofRecord (w .there j n) ∙ same-last j h)
 
   -- a change that is made, and what the book notes of it
-  legal-follows : {i : ℕ} {c : Change} {r : SystemOutcome} {n : Note} → Tables s → Present s i → Legal s i c r → Match s c n → LastIn (vcpuAt s i) c
-      → Follows s (r .system) (entered b i n)
+  legal-follows : {i : ℕ} {c : Change} {r : SystemOutcome} {n : Note} → Tables s → Present s i → Legal s i c r
+      → Match s c n → LastIn (vcpuAt s i) c → Follows s (r .system) (entered b i n)
   unfolding latestOnto
   legal-follows t h (stays a) (both-refuse _) x = unwritten-follows (told a)
   legal-follows {i} t h (keeps k w) (both-write y) x =
@@ -98,10 +102,10 @@ module _ {b : Book} {s : System} (L : Lines b s) (Y : Rights s) where
 
 module _ {k : Shape} {b : Book} {s : System} (K : InStep k b s) (Y : Rights s) where
   made-follows : (d v : ℕ) (q : Request) → Present s (slot d v) → reaches q (pcpus s) ≡ true
-      → Follows s ((made s (slot d v) q) .system) (entered b (slot d v) (note K d v q))
+      → Follows s ((made s (slot d v) q) .system) (entered b (slot d v) (noteOf k b (slot d v) q))
   made-follows d v q h r =
       legal-follows (K .lines) Y (K .tables) h (made-legal s (slot d v) (K .sound) h q r) (made-match K d v q h r)
-      (changed-last _ (Y .right (slot d v) h) q (fullAffinity s))
+      (changed-last _ (Y .right (slot d v) h) q (s .«pcpu_count»))
 
   abbrev FollowsFrom : SystemOutcome → Entry → Type 0
   FollowsFrom r e = Follows s (r .system) e
@@ -110,7 +114,7 @@ module _ {k : Shape} {b : Book} {s : System} (K : InStep k b s) (Y : Rights s) w
   refuses-follow a = unwritten-follows (K .lines) Y (told a)
 
   pub requested-follows : (d v : ℕ) (q : Request)
-      → Follows s ((requested s d v q) .system) (cond (reaches q (k .pcpus)) (identified k b d v (note K d v q)) (unwritten 3 b))
+      → Follows s ((requested s d v q) .system) (cond (reaches q (k .pcpus)) (identified k b d v (noteOf k b (slot d v) q)) (unwritten 3 b))
   requested-follows d v q = requested-by K FollowsFrom refuses-follow d v q (made-follows d v q)
 
 -- ---- one vCPU after another
@@ -121,7 +125,8 @@ onto-append i l [] ys = refl
 onto-append i l (x ∷ xs) ys = onto-append i _ xs ys
 
 -- one entry after another, where whoever is Offline after the first is so after the second
-joined-last : (e f : Entry) (i l : ℕ) → ((e .book i) .state ≡ Offline → (f .book i) .state ≡ Offline) → lastBy (joined e f) i l ≡ lastBy f i (lastBy e i l)
+joined-last : (e f : Entry) (i l : ℕ) → ((e .book i) .state ≡ Offline → (f .book i) .state ≡ Offline)
+    → lastBy (joined e f) i l ≡ lastBy f i (lastBy e i l)
 joined-last e f i l g = rw (onto-append i l (e .moves) (f .moves)) (go ((e .book i) .state) g)
   where
     m : ℕ
@@ -135,7 +140,8 @@ joined-last e f i l g = rw (onto-append i l (e .moves) (f .moves)) (go ((e .book
     go Blocked g = refl
 
 -- whoever is Offline stays so where one is taken offline
-still-offline : (b : Book) (i full now j : ℕ) → (b j) .state ≡ Offline → ((entered b i (offlineNote (b i) full now ((b i) .state))) .book j) .state ≡ Offline
+still-offline : (b : Book) (i full now j : ℕ) → (b j) .state ≡ Offline
+    → ((entered b i (offlineNote (b i) full now ((b i) .state))) .book j) .state ≡ Offline
 still-offline b i full now j e = go ((b i) .state)
   where
     either : (l : Line) → l .state ≡ Offline → (t : Bool) → (cond t l (b j)) .state ≡ Offline
@@ -149,7 +155,8 @@ still-offline b i full now j e = go ((b i) .state)
     go Blocked = either _ refl (eqb j i)
 
 module _ {k : Shape} {b : Book} {s : System} (K : InStep k b s) (Y : Rights s) where
-  first-follows : (d now n : ℕ) → d < domains s → n ≤ vcpus s → Follows s (offlineFirst s d now n) (offlineLines k b d now n)
+  first-follows : (d now n : ℕ) → d < domains s → n ≤ vcpus s
+      → Follows s (offlineFirst s d now n) (offlineLines k b d now n)
   unfolding offlineFirst offlineLines
   first-follows d now zero a x = unwritten-follows (K .lines) Y 0
   first-follows d now (suc n) a x =
@@ -159,7 +166,7 @@ module _ {k : Shape} {b : Book} {s : System} (K : InStep k b s) (Y : Rights s) w
       let F = first-follows d now n a (omega arith) in
       let h : Present (offlineFirst s d now n) (slot d n) = present-on {i = slot d n} (m .shape) (record { domain = omega arith; vcpu = omega arith }) in
       let G = made-follows T (F .rights) d n (Request.Offline now) h refl in
-      let f = entered (e .book) (slot d n) (note T d n (Request.Offline now)) in
+      let f = entered (e .book) (slot d n) (noteOf k (e .book) (slot d n) (Request.Offline now)) in
       record {
         last = λ j y.
             G .last j (present-on (m .shape) y) ∙ ap (lastBy f j) (F .last j y)
@@ -167,6 +174,7 @@ module _ {k : Shape} {b : Book} {s : System} (K : InStep k b s) (Y : Rights s) w
         rights = G .rights;
       }
 
-  pub offline-all-follows : (d now : ℕ) → Follows s ((offlineAll s d now) .system) (cond (ltb d (k .domains)) (offlineLines k b d now (k .vcpus)) (unwritten 0 b))
+  pub offline-all-follows : (d now : ℕ)
+      → Follows s ((offlineAll s d now) .system) (cond (ltb d (k .domains)) (offlineLines k b d now (k .vcpus)) (unwritten 0 b))
   offline-all-follows d now =
       offline-all-by K (FollowsFrom K Y) (refuses-follow K Y) d now (λ a. first-follows d now (vcpus s) a (omega arith))

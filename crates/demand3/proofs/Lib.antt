@@ -1,30 +1,35 @@
+mod AfterAdvance
+mod AsSet
+mod AtPoint
 mod BeforeFirstAdvance
 mod BookReads
-pub mod Built
+mod Built
 mod ClippedMasks
-mod Conclusions
 mod Demand3
 mod Departures
 mod Entering
 mod EveryCall
+mod ExactRanking
+mod FreshHost
 mod Holders
+mod InPool
 mod InStep
+mod Lag
+mod LagMoves
 mod LastPcpu
 mod LastRecords
 mod LastRequests
 pub mod Laws
 mod Made
-pub mod MovesTell
+mod MovesTell
 mod Notes
 mod Noting
 mod Pool
-mod Preparing
 mod PoolLists
+mod Preparing
+mod ServiceMachine
 mod SetWeight
 mod Tracked
 mod Uncut
 mod Unset
 mod WeightCalls
-mod ExactRanking
-mod Lag
-mod LagMoves

@@ -7,7 +7,7 @@ use mathlib.Core.Logic.{_≢_}
 use native.Mathlib.Omega.{arith}
 use native.Mathlib.Decide.{ℕ-discrete}
 use borrow.Author.Tests.{eq-eqb, ne-eqb, ltb-true}
-use Rattle.masks.specs.Masks.{permits}
+use Rattle.masks.specs.Masks.{permits, fullMask, clipped}
 use Rattle.system.specs.declared.RunState.{RunState}
 use Rattle.system.specs.declared.RunState.the-variants.{Offline, Runnable, Running, Blocked}
 use Rattle.system.specs.declared.VirtualCpu.{VirtualCpu}
@@ -20,41 +20,46 @@ use Rattle.system.specs.Records.{withMask}
 use Rattle.system.specs.Reads.{vcpuAt, occupantAt, isIdle}
 use Rattle.system.specs.Writes.{Tables, Wrote, present-back}
 use Rattle.system.specs.Slots.{Present}
-use Rattle.changes.specs.declared.Request.{Request}
+use Rattle.calls.specs.declared.Request.{Request}
 use Rattle.changes.specs.declared.Change.{Change}
 use Rattle.changes.specs.declared.Change.the-variants.{Refuse, Write, Enter, Leave}
 use Rattle.changes.specs.Records.{withState, dispatched, left, forgotten}
-use Rattle.changes.specs.Changes.{foundIn, admitted, ran, preempted, blocked, woken, masked, offlined, changed, reaches}
+use Rattle.changes.specs.Changes.{foundIn, admitted, ran, preempted, blocked, woken, masked, offlined, changed}
+use Rattle.changes.specs.Changes.{reaches}
 use Rattle.sched.proofs.Laws.{NotRunning, Legal, stays, keeps, busy, goes-on, comes-off, off-nr, ready-nr, blocked-nr}
 use Rattle.demand3.specs.Dated.{onto, off}
-use Rattle.demand3.specs.Book.{Line, Book, noted, marked, remasked, opened, closed, Note, refuse, write, move, Entry, entered, admitNote, runNote, preemptNote, blockNote, wakeNote, offlineNote, maskNote}
-use Rattle.demand3.specs.Agreement.{Says}
-use Rattle.demand3.proofs.Holders.{Lines}
+use Rattle.scans.specs.Scan.{some}
+use Rattle.demand3.specs.Book.{Line, Book, Shape, noted, marked, remasked, opened, closed, holder, Note, refuse}
+use Rattle.demand3.specs.Book.{write, move, Entry, entered}
+use Rattle.demand3.specs.Book.{admitNote, runNote, preemptNote, blockNote, wakeNote, offlineNote, maskNote}
+use Rattle.demand3.specs.Book.{noteOf}
+use Rattle.demand3.specs.Agreement.{LineSays, Lines}
 
 pub data Match (s : System) : Change → Note → Type 0 where
   both-refuse : (a : Answer) → Match s (Refuse a) (refuse (told a))
-  both-write : {v : VirtualCpu} {l : Line} → Says l v → Match s (Write v) (write l)
-  both-enter : {v : VirtualCpu} {p : ℕ} {l : Line} (now : ℕ) (taken : Bool) → taken ≡ not (isIdle (occupantAt s p)) → Says l v
-      → Match s (Enter v p) (cond taken (refuse 5) (move onto p now l))
-  both-leave : {v : VirtualCpu} {p now : ℕ} {l : Line} → Says l v → Match s (Leave v p) (move off p now l)
+  both-write : {v : VirtualCpu} {l : Line} → LineSays l v → Match s (Write v) (write l)
+  both-enter : {v : VirtualCpu} {p : ℕ} {l : Line} (now : ℕ) (taken : Bool) → taken ≡ not (isIdle (occupantAt s p))
+      → LineSays l v → Match s (Enter v p) (cond taken (refuse 5) (move onto p now l))
+  both-leave : {v : VirtualCpu} {p now : ℕ} {l : Line} → LineSays l v → Match s (Leave v p) (move off p now l)
 
 -- ---- lines and records made anew say the same
 
-module _ {l : Line} {v : VirtualCpu} (y : Says l v) where
-  in-state : (st : RunState) → NotRunning st → Says (marked l st) (withState v st)
+module _ {l : Line} {v : VirtualCpu} (y : LineSays l v) where
+  in-state : (st : RunState) → NotRunning st → LineSays (marked l st) (withState v st)
   in-state st n = record { state = refl; time = y .time; mask = y .mask; clock = λ p e. absurd (n p e) }
 
-  new-mask : (m : ℕ) → Says (remasked l m) (withMask v m)
+  new-mask : (m : ℕ) → LineSays (remasked l m) (withMask v m)
   new-mask m = record { state = y .state; time = y .time; mask = refl; clock = y .clock }
 
-  forgets : (full : ℕ) → Says (remasked l full) (forgotten v full)
+  forgets : (full : ℕ) → LineSays (remasked l full) (forgotten v full)
   forgets full = record { state = y .state; time = y .time; mask = refl; clock = y .clock }
 
-  pub on-pcpu : (p now : ℕ) → Says (opened l p now) (dispatched v p now)
+  pub on-pcpu : (p now : ℕ) → LineSays (opened l p now) (dispatched v p now)
   unfolding dispatched
   on-pcpu p now = record { state = refl; time = y .time; mask = y .mask; clock = λ q e. refl }
 
-  pub off-pcpu : (p now : ℕ) (st : RunState) → v .state ≡ Running p → NotRunning st → Says (closed l st now) (left v st now)
+  pub off-pcpu : (p now : ℕ) (st : RunState) → v .state ≡ Running p → NotRunning st
+      → LineSays (closed l st now) (left v st now)
   unfolding left
   off-pcpu p now st e n =
       let c = y .clock p e in
@@ -63,17 +68,7 @@ module _ {l : Line} {v : VirtualCpu} (y : Says l v) where
 
 -- ---- each request
 
--- what the book notes of a request, where taken says on which pCPUs somebody runs
-abbrev pub requestNote : Line → Request → ℕ → (ℕ → Bool) → Note
-requestNote l Request.Admit full taken = admitNote l (l .state)
-requestNote l (Request.Run p now) full taken = runNote l p (taken p) now (l .state)
-requestNote l (Request.Preempt now) full taken = preemptNote l now (l .state)
-requestNote l (Request.Block now) full taken = blockNote l now (l .state)
-requestNote l Request.Wake full taken = wakeNote l (l .state)
-requestNote l (Request.SetAffinity m) full taken = maskNote l m (l .state)
-requestNote l (Request.Offline now) full taken = offlineNote l full now (l .state)
-
-module _ (s : System) {l : Line} {v : VirtualCpu} (y : Says l v) where
+module _ (s : System) {l : Line} {v : VirtualCpu} (y : LineSays l v) where
   admit-match : (st : RunState) → v .state ≡ st → Match s (admitted v st) (admitNote l st)
   admit-match Offline e = both-write (in-state y Runnable ready-nr)
   admit-match Runnable e = both-refuse (foundIn Runnable)
@@ -103,18 +98,21 @@ module _ (s : System) {l : Line} {v : VirtualCpu} (y : Says l v) where
   mask-match m Runnable e = both-write (new-mask y m)
   mask-match m (Running p) e = go (permits m p)
     where
-      go : (b : Bool) → Match s (cond b (Write (withMask v m)) (Refuse NotAffine)) (cond b (write (remasked l m)) (refuse 6))
+      go : (b : Bool)
+          → Match s (cond b (Write (withMask v m)) (Refuse NotAffine)) (cond b (write (remasked l m)) (refuse 6))
       go true = both-write (new-mask y m)
       go false = both-refuse NotAffine
   mask-match m Blocked e = both-write (new-mask y m)
 
-  offline-match : (full now : ℕ) (st : RunState) → v .state ≡ st → Match s (offlined v full now st) (offlineNote l full now st)
+  offline-match : (full now : ℕ) (st : RunState) → v .state ≡ st
+      → Match s (offlined v full now st) (offlineNote l full now st)
   offline-match full now Offline e = both-refuse (foundIn Offline)
   offline-match full now Runnable e = both-write (forgets (in-state y Offline off-nr) full)
   offline-match full now (Running p) e = both-leave (forgets (off-pcpu y p now Offline e off-nr) full)
   offline-match full now Blocked e = both-write (forgets (in-state y Offline off-nr) full)
 
-  run-match : (p now : ℕ) (taken : Bool) → taken ≡ not (isIdle (occupantAt s p)) → (st : RunState) → Match s (ran v p now st) (runNote l p taken now st)
+  run-match : (p now : ℕ) (taken : Bool) → taken ≡ not (isIdle (occupantAt s p)) → (st : RunState)
+      → Match s (ran v p now st) (runNote l p taken now st)
   run-match p now taken f Offline = both-refuse (foundIn Offline)
   run-match p now taken f Runnable =
       subst (λ (m : ℕ). Match s (ran v p now Runnable) (cond (permits m p) (cond taken (refuse 5) (move onto p now (opened l p now))) (refuse 6))) (sym (y .mask))
@@ -131,15 +129,24 @@ module _ (s : System) {l : Line} {v : VirtualCpu} (y : Says l v) where
   by-state : {c : Change} (note : RunState → Note) → Match s c (note (v .state)) → Match s c (note (l .state))
   by-state {c} note m = subst (λ (st : RunState). Match s c (note st)) (sym (y .state)) m
 
-  pub request-match : (q : Request) (full n : ℕ) (taken : ℕ → Bool) → reaches q n ≡ true
-      → ((p : ℕ) → p < n → taken p ≡ not (isIdle (occupantAt s p))) → Match s (changed q full v) (requestNote l q full taken)
-  request-match Request.Admit full n taken r f = by-state (admitNote l) (admit-match (v .state) refl)
-  request-match (Request.Run p now) full n taken r f = by-state (runNote l p (taken p) now) (run-match p now (taken p) (f p (ltb-true p n r)) (v .state))
-  request-match (Request.Preempt now) full n taken r f = by-state (preemptNote l now) (preempt-match now (v .state) refl)
-  request-match (Request.Block now) full n taken r f = by-state (blockNote l now) (block-match now (v .state) refl)
-  request-match Request.Wake full n taken r f = by-state (wakeNote l) (wake-match (v .state) refl)
-  request-match (Request.SetAffinity m) full n taken r f = by-state (maskNote l m) (mask-match m (v .state) refl)
-  request-match (Request.Offline now) full n taken r f = by-state (offlineNote l full now) (offline-match full now (v .state) refl)
+  pub offline-noted : (n now : ℕ)
+      → Match s (changed (Request.Offline now) n v) (offlineNote l (fullMask n) now (l .state))
+  offline-noted n now = by-state (offlineNote l (fullMask n) now) (offline-match (fullMask n) now (v .state) refl)
+
+-- where the book's holders are the system's
+pub request-match : (k : Shape) (b : Book) (i : ℕ) (s : System) {v : VirtualCpu} → LineSays (b i) v → (q : Request)
+    → reaches q (k .pcpus) ≡ true → ((p : ℕ) → p < k .pcpus → some (holder k b p) ≡ not (isIdle (occupantAt s p)))
+    → Match s (changed q (k .pcpus) v) (noteOf k b i q)
+request-match k b i s {v} y Request.Admit r f = by-state s y (admitNote (b i)) (admit-match s y (v .state) refl)
+request-match k b i s {v} y (Request.Run p now) r f =
+    let t = some (holder k b p) in
+    by-state s y (runNote (b i) p t now) (run-match s y p now t (f p (ltb-true p (k .pcpus) r)) (v .state))
+request-match k b i s {v} y (Request.Preempt now) r f = by-state s y (preemptNote (b i) now) (preempt-match s y now (v .state) refl)
+request-match k b i s {v} y (Request.Block now) r f = by-state s y (blockNote (b i) now) (block-match s y now (v .state) refl)
+request-match k b i s {v} y Request.Wake r f = by-state s y (wakeNote (b i)) (wake-match s y (v .state) refl)
+request-match k b i s {v} y (Request.SetAffinity m) r f =
+    let n = clipped m (k .pcpus) in by-state s y (maskNote (b i) n) (mask-match s y n (v .state) refl)
+request-match k b i s y (Request.Offline now) r f = offline-noted s y (k .pcpus) now
 
 -- ---- what matches is told the same and leaves what agrees
 
@@ -149,21 +156,21 @@ noted-here b i l = rw (eq-eqb i i refl)
 pub noted-there : (b : Book) (i : ℕ) (l : Line) (j : ℕ) → j ≢ i → noted b i l j ≡ b j
 noted-there b i l j n = rw (ne-eqb j i n)
 
-pub wrote-lines : {b : Book} {s s′ : System} {i p : ℕ} {v : VirtualCpu} {o : Occupant} {l : Line} → Lines b s → Wrote s s′ i v p o → Says l v
-    → Lines (noted b i l) s′
+pub wrote-lines : {b : Book} {s s′ : System} {i p : ℕ} {v : VirtualCpu} {o : Occupant} {l : Line} → Lines b s
+    → Wrote s s′ i v p o → LineSays l v → Lines (noted b i l) s′
 wrote-lines {b} {s} {s′} {i} {p} {v} {o} {l} L k y = record { says = λ j h. go j h (ℕ-discrete j i) }
   where
-    go : (j : ℕ) → Present s′ j → Dec (j ≡ i) → Says (noted b i l j) (vcpuAt s′ j)
-    go j h (yes e) = rw e (subst₂ Says (sym (noted-here b i l)) (sym (k .here)) y)
-    go j h (no n) = subst₂ Says (sym (noted-there b i l j n)) (sym (k .there j n)) (L .says j (present-back (k .shape) h))
+    go : (j : ℕ) → Present s′ j → Dec (j ≡ i) → LineSays (noted b i l j) (vcpuAt s′ j)
+    go j h (yes e) = rw e (subst₂ LineSays (sym (noted-here b i l)) (sym (k .here)) y)
+    go j h (no n) = subst₂ LineSays (sym (noted-there b i l j n)) (sym (k .there j n)) (L .says j (present-back (k .shape) h))
 
 -- the same number is told, and the lines still agree
 pub record Alike (r : SystemOutcome) (e : Entry) : Type 0 where
   pub number : r .number ≡ e .number
   pub lines : Lines (e .book) (r .system)
 
-pub legal-alike : {s : System} {b : Book} {i : ℕ} {c : Change} {r : SystemOutcome} {n : Note} → Tables s → Legal s i c r → Lines b s → Match s c n
-    → Alike r (entered b i n)
+pub legal-alike : {s : System} {b : Book} {i : ℕ} {c : Change} {r : SystemOutcome} {n : Note} → Tables s
+    → Legal s i c r → Lines b s → Match s c n → Alike r (entered b i n)
 legal-alike t (stays a) L (both-refuse _) = record { number = refl; lines = L }
 legal-alike t (keeps k w) L (both-write y) = record { number = refl; lines = wrote-lines L (w t) y }
 legal-alike t (busy l e) L (both-enter now taken f y) = rw (f ∙ ap not e) (record { number = refl; lines = L })

@@ -1,5 +1,5 @@
--- What each call of a pool list keeps: no offset is set, and with a slice of 1 or more the lag is bounded up to g after the latest
--- advance. Assumes nothing.
+-- What each call of a pool list keeps: no offset is set, and with a slice of 1 or more the lag is bounded up to g
+-- after the latest advance. Assumes nothing.
 use Prim.Native.Nat.{ℕ, _+_, _-_, _/_, _%_, _^_, _≤_, _<_}
 use mathlib.Core.Bool.{Bool, true, false, false≢true}
 use mathlib.Core.Path.{_≡_, refl, sym, _∙_, ap, subst}
@@ -15,7 +15,7 @@ use Rattle.verdict.specs.Sound.{Sound}
 use Rattle.sched.specs.Invariants.{Keeps}
 use Rattle.moves.specs.declared.Choice.{Choice}
 use Rattle.moves.specs.declared.Choice.the-variants.{Rest}
-use Rattle.scan.specs.Scan.{Pick, nobody, at}
+use Rattle.scans.specs.Scan.{Pick, nobody, at}
 use Rattle.policy.specs.declared.Scheduler.{Scheduler}
 use Rattle.policy.specs.Accounts.{covers, wasSchedulable, setWakeBoost}
 use Rattle.policy.specs.Standing.{weightAt}
@@ -47,7 +47,8 @@ pub record Pooling (g t : ℕ) (s : System) (π : Scheduler) : Type 0 where
   pub tabled : Tabled π
   pub words : Words s
   -- nobody in the pool is new to it
-  pub seen : (i : ℕ) → Present s i → pooled s i ≡ true → covers π (i / 8) (i % 8) ≡ true → wasSchedulable π (i / 8) (i % 8) ≡ true
+  pub seen : (i : ℕ) → Present s i → pooled s i ≡ true → covers π (i / 8) (i % 8) ≡ true
+      → wasSchedulable π (i / 8) (i % 8) ≡ true
 
 -- the lag depends on the weights alone
 same-weights : {w w′ : ℕ → ℕ} {lim now : ℕ} {s : System} → ((i : ℕ) → w i ≡ w′ i) → Lag w lim s now → Lag w′ lim s now
@@ -101,22 +102,24 @@ module _ (s : System) (π : Scheduler) (now g : ℕ) (fit : now < 2 ^ 64) (tb : 
       }
 
 -- the first advance finds no floor, as nobody was in the pool before
-no-floor : (s : System) (π : Scheduler) (now : ℕ) → ((i : ℕ) → wasSchedulable π (i / 8) (i % 8) ≡ false) → floor s π now ≡ nobody
+no-floor : (s : System) (π : Scheduler) (now : ℕ) → ((i : ℕ) → wasSchedulable π (i / 8) (i % 8) ≡ false)
+    → floor s π now ≡ nobody
 no-floor s π now u = go (floor s π now) refl
   where
     go : (r : Pick) → floor s π now ≡ r → r ≡ nobody
     go nobody e = refl
     go (at f) e = absurd (false≢true (sym (u f) ∙ floor-stayed s π now f e .was-pooled))
 
-pub first-advance : {s t : System} {π : Scheduler} {cs : List Choice} (now g : ℕ) → now < 2 ^ 64 → Tables s → Sound s → Words s
+pub first-advance : {s t : System} {π : Scheduler} {cs : List Choice} (now g : ℕ) → now < 2 ^ 64 → Tables s
+    → Sound s → Words s
     → Tabled π → Plain π → ((i : ℕ) → wasSchedulable π (i / 8) (i % 8) ≡ false) → Lag (weightAt π) (slack π g) s now
-    → Trace (ruleOf (accounted s π now)) now s cs t → (1 ≤ π .quantum → choice t (ruleOf (accounted s π now)) now ≡ Rest)
-    → Pooling g now t (accounted s π now)
+    → Trace (ruleOf (accounted s π now)) now s cs t
+    → (1 ≤ π .quantum → choice t (ruleOf (accounted s π now)) now ≡ Rest) → Pooling g now t (accounted s π now)
 first-advance {s} {t} {π} now g fit tb S w L P u lag tr e =
     settles-pooling s π now g fit tb S w L (unlifted s π now g fit tb S w L P (λ i. renewal.no-floor (no-floor s π now u))) (λ q. lag) tr e
 
-pub next-advance : {s t : System} {π : Scheduler} {cs : List Choice} (t₀ now g : ℕ) → now < 2 ^ 64 → Tables s → Sound s
-    → Pooling g t₀ s π → t₀ ≤ now → now ≤ t₀ + g → Trace (ruleOf (accounted s π now)) now s cs t
+pub next-advance : {s t : System} {π : Scheduler} {cs : List Choice} (t₀ now g : ℕ) → now < 2 ^ 64 → Tables s
+    → Sound s → Pooling g t₀ s π → t₀ ≤ now → now ≤ t₀ + g → Trace (ruleOf (accounted s π now)) now s cs t
     → (1 ≤ π .quantum → choice t (ruleOf (accounted s π now)) now ≡ Rest) → Pooling g now t (accounted s π now)
 next-advance {s} {t} {π} t₀ now g fit tb S p lo up tr e =
     settles-pooling s π now g fit tb S (p .words) (p .tabled)
@@ -126,7 +129,8 @@ next-advance {s} {t} {π} t₀ now g fit tb S p lo up tr e =
 
 -- ---- the other calls
 
-pub departure : {s s′ : System} {π : Scheduler} {g t : ℕ} → Shrinks s s′ → Keeps s s′ → Pooling g t s π → Pooling g t s′ π
+pub departure : {s s′ : System} {π : Scheduler} {g t : ℕ} → Shrinks s s′ → Keeps s s′ → Pooling g t s π
+    → Pooling g t s′ π
 departure {s} {s′} {π} x k p =
     record {
       bounded = λ q r lo up. shrinks-lag x (p .bounded q r lo up);

@@ -1,4 +1,5 @@
--- What the calls that set a pool up keep: nobody has run, no offset is set, and nobody is in the snapshot. Assumes nothing.
+-- What the calls that set a pool up keep: nobody has run, no offset is set, and nobody is in the snapshot. Assumes
+-- nothing.
 use Prim.Native.Nat.{ℕ, _/_, _%_, _^_, _<_, max}
 use mathlib.Core.Bool.{false}
 use mathlib.Core.Path.{_≡_, _∙_}
@@ -12,14 +13,16 @@ use Rattle.policy.specs.Standing.{weightAt}
 use Rattle.policy.specs.Settings.{Weighed, Cleared}
 use Rattle.policy.proofs.Laws.{Tabled, set-weighed, set-weight-either, set-weight-tabled, cleared, cleared-tabled}
 use Rattle.host.specs.declared.Host.{Host}
-use Rattle.host.specs.declared.Call.{Call}
+use Rattle.calls.specs.declared.Call.{Call}
 use Rattle.host.specs.Step.{step}
-use Rattle.host.specs.Typed.{Typed}
+use Rattle.calls.specs.Typed.{Typed}
+use Rattle.demand3.specs.ServiceMachine.{serviceMachine}
 use Rattle.demand3.specs.Book.{Book, Shape}
 use Rattle.demand3.specs.Lists.{Prepares}
 use Rattle.demand3.specs.Lists as lists
 use Rattle.demand3.proofs.EveryCall.{Kept}
-use Rattle.demand3.proofs.BeforeFirstAdvance.{Unrun, admit-unrun, block-unrun, wake-unrun, mask-unrun, offline-unrun}
+use Rattle.demand3.proofs.BeforeFirstAdvance.{Unrun, admit-unrun, block-unrun, wake-unrun, mask-unrun}
+use Rattle.demand3.proofs.BeforeFirstAdvance.{offline-unrun}
 use Rattle.demand3.proofs.BeforeFirstAdvance.{offline-all-unrun}
 use Rattle.demand3.proofs.LagMoves.{Plain}
 use Rattle.demand3.proofs.Pool.{Words}
@@ -38,8 +41,8 @@ Next h c = (step h c) .host
 by-mechanism : {h : Host} {s : System} → Prepared h → Keeps (h .system) s → Unrun s → Prepared (record { system = s; scheduler = h .scheduler })
 by-mechanism P m y = record { unrun = y; plain = P .plain; tabled = P .tabled; words = m .times (P .words) .word; unseen = P .unseen }
 
-pub prepare : {k : Shape} {b : Book} {h : Host} {c : Call} → Kept k b h → Prepared h → Typed c → Prepares (h .system .«pcpu_count») c
-    → Prepared (Next h c)
+pub prepare : {k : Shape} {b : Book} {h : Host} {c : Call} → Kept serviceMachine k b h → Prepared h → Typed c
+    → Prepares (h .system .«pcpu_count») c → Prepared (Next h c)
 unfolding step
 prepare {h = h} K P f (lists.Prepares.admit d v) =
     let T = K .in-step in
@@ -75,7 +78,8 @@ prepare {h = h} K P f (lists.Prepares.weigh d v w) =
     look : Weighed (h .scheduler) d v w (setWeight (h .scheduler) d v w)
     look = set-weighed (h .scheduler) (P .tabled) d v w
 
-    weight : (i : ℕ) → (weightAt (setWeight (h .scheduler) d v w) i ≡ max w 1) ⊎ (weightAt (setWeight (h .scheduler) d v w) i ≡ weightAt (h .scheduler) i)
+    weight : (i : ℕ)
+        → (weightAt (setWeight (h .scheduler) d v w) i ≡ max w 1) ⊎ (weightAt (setWeight (h .scheduler) d v w) i ≡ weightAt (h .scheduler) i)
         → weightAt (setWeight (h .scheduler) d v w) i < 2 ^ 32
     weight i (inl e) = omega (arith, f .2)
     weight i (inr e) = omega (arith, P .plain .weights i)

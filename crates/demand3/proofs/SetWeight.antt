@@ -14,7 +14,8 @@ pub set-weight : (π : Scheduler) → Tabled π → (d v x d′ v′ : ℕ) → 
     → weightOf (setWeight π d v x) d′ v′ ≡ cond (eqb d d′ && eqb v v′) (max x 1) (weightOf π d′ v′)
 set-weight π L d v x d′ v′ e = go (ℕ-discrete d d′) (ℕ-discrete v v′)
   where
-    go : Dec (d ≡ d′) → Dec (v ≡ v′) → weightOf (setWeight π d v x) d′ v′ ≡ cond (eqb d d′ && eqb v v′) (max x 1) (weightOf π d′ v′)
+    go : Dec (d ≡ d′) → Dec (v ≡ v′)
+        → weightOf (setWeight π d v x) d′ v′ ≡ cond (eqb d d′ && eqb v v′) (max x 1) (weightOf π d′ v′)
     go (yes a) (yes b) = rw (eq-eqb d d′ a, eq-eqb v v′ b, ← a, ← b) (set-weighed π L d v x .weight (rw (a, b) e))
     go (yes a) (no m) = rw (ne-eqb v v′ m, and-false (eqb d d′)) (set-weighed π L d v x .others d′ v′ (λ f. m (sym (f .1))))
     go (no m) b = rw (ne-eqb d d′ m) (set-weighed π L d v x .others d′ v′ (λ f. m (sym (f .0))))

@@ -1,23 +1,27 @@
 -- The dated moves of a book that is made line by line tell who holds which pCPU. Assumes nothing.
-use Prim.Native.Nat.{ℕ}
+use Prim.Native.Nat.{ℕ, _/_, _%_}
 use mathlib.Core.Bool.{cond}
 use mathlib.Core.Path.{_≡_, refl, sym, _∙_, ap, subst}
 use mathlib.Core.Logic.{_≢_}
 use mathlib.Core.List.{List, _∷_, _++_}
 use native.Mathlib.Decide.{ℕ-discrete}
+use native.Mathlib.Omega.{arith}
 use lib.Dec.{eqb}
 use borrow.Author.Tests.{eq-eqb, ne-eqb}
 use Rattle.system.specs.declared.RunState.the-variants.{Running}
-use Rattle.scan.specs.Scan.{Pick}
-use Rattle.scan.specs.Scan as scans
+use Rattle.system.specs.declared.Occupant.the-variants.{Vcpu}
+use Rattle.system.specs.declared.System.{System}
+use Rattle.system.specs.Reads.{occupantAt}
+use Rattle.scans.specs.Scan.{Pick}
+use Rattle.scans.specs.Scan as scans
 use Rattle.sched.proofs.Laws.{ready-nr}
 use Rattle.demand3.specs.Dated.{Dated, onto, off, dated}
 use Rattle.demand3.specs.Book.{Line, Book, Shape, noted, holder}
-use Rattle.demand3.specs.Agreement.{PresentIn}
+use Rattle.demand3.specs.Agreement.{PresentIn, InStep}
 use Rattle.demand3.specs.Lists.{Clock}
-use Rattle.demand3.specs.Holding.{Hold, free, by, holdBy, holding, holdAfter, Turns, AllAt}
+use Rattle.demand3.specs.Holding.{Hold, free, by, holdBy, holding, holdAfter, Turns}
 use Rattle.demand3.specs.Holding as moves
-use Rattle.demand3.proofs.Holders.{holder-runs, nobody-runs}
+use Rattle.demand3.proofs.Holders.{holder-runs, nobody-runs, shaped-present}
 use Rattle.demand3.proofs.Notes.{noted-here, noted-there}
 use Rattle.demand3.proofs.Made.{InPlace, GoesOn, ComesOff, Vacant, Made, done, writes, goes-on, comes-off}
 
@@ -33,6 +37,32 @@ tracks-holding {k} {b} {H} T p = go (holder k b p) refl
     go : (r : Pick) → holder k b p ≡ r → H p ≡ holdBy b r
     go scans.nobody e = T .off p (λ i x. nobody-runs k b p i e x)
     go (scans.at i) e = let f = holder-runs k b p i e in T .on i p (f .0) (f .1)
+
+-- of a system in step: in a sound one nobody else runs where the holder does
+pub in-step-tracks : {k : Shape} {b : Book} {s : System} → InStep k b s → Tracks k b (holding k b)
+in-step-tracks {k} {b} {s} T = record { on = λ i p x e. on i p x e (holder k b p) refl; off = λ p v. off p v (holder k b p) refl }
+  where
+    -- whoever runs on p is its occupant
+    occupies : (i p : ℕ) → PresentIn k i → (b i) .state ≡ Running p → occupantAt s p ≡ Vcpu (i / 8) (i % 8)
+    occupies i p x e =
+        let h = shaped-present (T .shaped) (T .sound) x in
+        T .sound .runs i p h (sym (T .lines .says i h .state) ∙ e) .back
+
+    on : (i p : ℕ) → PresentIn k i → (b i) .state ≡ Running p → (r : Pick) → holder k b p ≡ r
+        → holdBy b r ≡ by i ((b i) .clock)
+    on i p x e scans.nobody f = absurd (nobody-runs k b p i f x e)
+    on i p x e (scans.at j) f =
+        let y = holder-runs k b p j f in
+        let o = occupies i p x e in
+        let u = occupies j p (y .0) (y .1) in
+        let d : i / 8 ≡ j / 8 = cc in
+        let v : i % 8 ≡ j % 8 = cc in
+        let z : j ≡ i = omega arith in
+        rw z
+
+    off : (p : ℕ) → Vacant k b p → (r : Pick) → holder k b p ≡ r → holdBy b r ≡ free
+    off p v scans.nobody f = refl
+    off p v (scans.at j) f = let y = holder-runs k b p j f in absurd (v j (y .0) (y .1))
 
 -- ---- H with another hold of pCPU p
 
@@ -120,10 +150,11 @@ on-pcpu H m x {ms} {E} f r q = go (ℕ-discrete q (m .pcpu))
     go (yes e) = rw e (f (subst (λ (h : Hold). Turns (m .pcpu) h ms (E (m .pcpu))) (put-here H (m .pcpu) x) (r (m .pcpu))))
     go (no n) = moves.elsewhere (λ e. n (sym e)) (subst (λ (h : Hold). Turns q h ms (E q)) (put-there H (m .pcpu) x q n) (r q))
 
-pub made-turned : {k : Shape} {t : Clock} {b b′ : Book} {ms : List Dated} {H : ℕ → Hold} → Made k t b ms b′ → Tracks k b H → Turned k H ms b′
+pub made-turned : {k : Shape} {t : Clock} {b b′ : Book} {ms : List Dated} {H : ℕ → Hold} → Made k t b ms b′
+    → Tracks k b H → Turned k H ms b′
 made-turned {H = H} done T = record { ends = H; tracks = T; turns = λ p. moves.done }
 made-turned (writes {l = l} x y m) T = made-turned m (stays-tracked l T x y)
-made-turned {H = H} (goes-on {i = i} {p = p} {now = now} {l = l} e x v y m) T =
+made-turned {H = H} (goes-on {i = i} {p = p} {now = now} {l = l} e x w v y m) T =
     let r = made-turned m (goes-tracked l T x v y) in
     record {
       ends = r .ends;
@@ -138,14 +169,8 @@ made-turned {H = H} (comes-off {i = i} {p = p} {now = now} {l = l} e x y m) T =
       turns = on-pcpu H (dated off i p now) free (rw (T .on i p x (y .on)) (λ z. moves.comes-off z)) (r .turns);
     }
 
--- every move has the clock at which the book is made
-pub made-clocks : {k : Shape} {t : Clock} {b b′ : Book} {ms : List Dated} → Made k t b ms b′ → AllAt t ms
-made-clocks done = tt
-made-clocks (writes x y m) = made-clocks m
-made-clocks (goes-on e x v y m) = (e, made-clocks m)
-made-clocks (comes-off e x y m) = (e, made-clocks m)
-
-pub turns-then : {p : ℕ} {f g h : Hold} {xs ys : List Dated} → Turns p f xs g → Turns p g ys h → Turns p f (xs ++ ys) h
+pub turns-then : {p : ℕ} {f g h : Hold} {xs ys : List Dated} → Turns p f xs g → Turns p g ys h
+    → Turns p f (xs ++ ys) h
 turns-then moves.Turns.done s = s
 turns-then (moves.Turns.goes-on r) s = moves.goes-on (turns-then r s)
 turns-then (moves.Turns.comes-off r) s = moves.comes-off (turns-then r s)

@@ -5,12 +5,10 @@ use mathlib.Core.Path.{_≡_, refl, _∙_}
 use mathlib.Core.List.{List}
 use Rattle.policy.specs.Accounts.{inShape}
 use Rattle.policy.proofs.Laws.{ranks-at}
-use Rattle.host.specs.declared.Call.{Call}
-use Rattle.host.specs.Step.{freshHost}
+use Rattle.calls.specs.declared.Call.{Call}
 use Rattle.demand3.specs.Weights.{weightThrough, weightAfter}
 use Rattle.demand3.specs.Unset.{Unset, none, outside, UnsetRanks}
-use Rattle.demand3.proofs.WeightCalls.{weighs-all, after-weighs}
-use Rattle.demand3.proofs.Conclusions.{fresh-kept, fresh-weighs}
+use Rattle.demand3.proofs.AsSet.{weights-at}
 
 unset-weight : {e u d v : ℕ} {cs : List Call} → Unset e u d v cs → weightAfter e u cs d v ≡ 256
 unset-weight {e} {u} {d} {v} {cs} (none f) = go (inShape e u d v)
@@ -21,7 +19,4 @@ unset-weight {e} {u} {d} {v} {cs} (none f) = go (inShape e u d v)
 unset-weight (outside x) = rw x
 
 pub unset-ranks : UnsetRanks
-unset-ranks d v p e u q hd hv hp cs i n =
-    ranks-at
-    (weighs-all (after-weighs cs (freshHost d v p e u q) (fresh-kept d v p e u q hd hv hp) (fresh-weighs d v p e u q hd hv hp)) (i / 8) (i % 8)
-    ∙ unset-weight n)
+unset-ranks f cs i n = ranks-at (weights-at f cs (i / 8) (i % 8) ∙ unset-weight n)

@@ -10,13 +10,17 @@ use Rattle.system.specs.Slots.{slot}
 use Rattle.policy.specs.declared.Scheduler.{Scheduler}
 use Rattle.policy.specs.Accounts.{defaultWeight, inShape, covers, weightOf, setWeight, setWakeBoost}
 use Rattle.policy.specs.Accounting.{accounted}
-use Rattle.policy.proofs.Laws.{Tabled, covers-below, defaults, set-weighed, set-weight-tabled, cleared, cleared-tabled, accounted-renewal}
+use Rattle.policy.proofs.Laws.{Tabled, covers-below, defaults, set-weighed, set-weight-tabled, cleared}
+use Rattle.policy.proofs.Laws.{cleared-tabled, accounted-renewal}
 use Rattle.host.specs.declared.Host.{Host}
-use Rattle.host.specs.declared.Call.{Call}
-use Rattle.host.specs.Step.{step, hostAfter}
+use Rattle.calls.specs.declared.Call.{Call}
+use Rattle.host.specs.Step.{step}
+use Rattle.demand3.specs.ServiceMachine.{serviceMachine}
+use Rattle.demand3.specs.Lists.{afterAll}
 use Rattle.demand3.specs.Book.{Book, Shape}
 use Rattle.demand3.specs.Weights.{weightBy, weightThrough}
-use Rattle.demand3.proofs.EveryCall.{Kept, step-goes, advance-traced}
+use Rattle.demand3.proofs.EveryCall.{Kept, step-goes}
+use Rattle.demand3.proofs.ServiceMachine.{advance-traced, service-lawful}
 use Rattle.demand3.proofs.SetWeight.{set-weight}
 
 -- a policy of e domains of u vCPUs whose weights are w in its shape
@@ -78,24 +82,19 @@ module _ {e u : ℕ} {w : ℕ → ℕ → ℕ} {π : Scheduler} (W : Weighs e u 
 
 -- ---- along a list
 
-step-weighs : {k : Shape} {b : Book} {h : Host} {e u : ℕ} {w : ℕ → ℕ → ℕ} (c : Call) → Kept k b h → Weighs e u w (h .scheduler)
-    → Weighs e u (λ d v. weightBy d v (w d v) c) ((step h c) .host .scheduler)
+step-weighs : {k : Shape} {b : Book} {h : Host} {e u : ℕ} {w : ℕ → ℕ → ℕ} (c : Call) → Kept serviceMachine k b h
+    → Weighs e u w (h .scheduler) → Weighs e u (λ d v. weightBy d v (w d v) c) ((step h c) .host .scheduler)
 unfolding step
-step-weighs (Call.Admit d v) K W = W
-step-weighs (Call.Run d v p now) K W = W
-step-weighs (Call.Preempt d v now) K W = W
-step-weighs (Call.Block d v now) K W = W
-step-weighs (Call.Wake d v) K W = W
-step-weighs (Call.Offline d v now) K W = W
+step-weighs (Call.Ask d v q) K W = W
 step-weighs (Call.OfflineAll d now) K W = W
-step-weighs (Call.SetAffinity d v m) K W = W
 step-weighs (Call.SetWeight d v x) K W = set-weighs W d v x
 step-weighs (Call.SetWakeBoost on) K W = boost-weighs W on
 step-weighs {h = h} {e = e} {u = u} {w = w} (Call.Advance now) K W =
-    subst (Weighs e u w) (sym (advance-traced now K .policy)) (account-weighs W (h .system) now)
+    subst (Weighs e u w) (sym (advance-traced h now (K .in-step .sound) .policy)) (account-weighs W (h .system) now)
 
-pub after-weighs : {k : Shape} {b : Book} {e u : ℕ} {w : ℕ → ℕ → ℕ} (cs : List Call) (h : Host) → Kept k b h → Weighs e u w (h .scheduler)
-    → Weighs e u (λ d v. weightThrough d v (w d v) cs) ((hostAfter h cs) .scheduler)
-unfolding hostAfter weightThrough
+pub after-weighs : {k : Shape} {b : Book} {e u : ℕ} {w : ℕ → ℕ → ℕ} (cs : List Call) (h : Host)
+    → Kept serviceMachine k b h → Weighs e u w (h .scheduler)
+    → Weighs e u (λ d v. weightThrough d v (w d v) cs) ((afterAll serviceMachine h cs) .scheduler)
+unfolding afterAll weightThrough
 after-weighs [] h K W = W
-after-weighs (c ∷ cs) h K W = after-weighs cs _ (step-goes c K .kept) (step-weighs c K W)
+after-weighs (c ∷ cs) h K W = after-weighs cs _ (step-goes service-lawful c K .kept) (step-weighs c K W)

@@ -1,5 +1,5 @@
--- The book: the records that the calls alone imply, and the dated moves of each call. It reads no system; of an advance it is
--- handed the moves.
+-- The book: the records that the calls alone imply, and the dated moves of each call. It reads no system; of an
+-- advance it is handed the moves.
 use Prim.Native.Nat.{ℕ, zero, suc, _+_, _-_, _*_, _/_, _%_, _^_, min}
 use mathlib.Core.Bool.{Bool, cond, _&&_}
 use mathlib.Core.List.{List, [], _∷_, _++_}
@@ -12,11 +12,12 @@ use Rattle.system.specs.declared.Occupant.the-variants.{Idle, Vcpu}
 use Rattle.system.specs.declared.Answer.the-variants.{Done, BadDomain, BadVcpu, BadPcpu, PcpuBusy, NotAffine}
 use Rattle.system.specs.Answers.{told}
 use Rattle.system.specs.States.{runsOn}
-use Rattle.changes.specs.Changes.{foundIn}
+use Rattle.changes.specs.Changes.{foundIn, reaches}
 use Rattle.moves.specs.declared.Choice.{Choice}
 use Rattle.moves.specs.declared.Choice.the-variants.{Run, Preempt, Rest}
-use Rattle.scan.specs.Scan.{Pick, nobody, at, scan, some, never}
-use Rattle.host.specs.declared.Call.{Call}
+use Rattle.scans.specs.Scan.{Pick, nobody, at, scan, some, never}
+use Rattle.calls.specs.declared.Request.{Request}
+use Rattle.calls.specs.declared.Call.{Call}
 use Rattle.demand3.specs.Dated.{Direction, onto, off, Dated, dated}
 
 -- what the book has of a vCPU: its state, its run time, the clock of its run, its mask
@@ -146,13 +147,23 @@ maskNote l m Runnable = write (remasked l m)
 maskNote l m (Running p) = cond (permits m p) (write (remasked l m)) (refuse (told NotAffine))
 maskNote l m Blocked = write (remasked l m)
 
+-- what is noted of a request of the vCPU at slot i: by its line, and of a run by whoever holds the pCPU
+abbrev pub noteOf : Shape → Book → ℕ → Request → Note
+noteOf k b i Request.Admit = admitNote (b i) ((b i) .state)
+noteOf k b i (Request.Run p now) = runNote (b i) p (some (holder k b p)) now ((b i) .state)
+noteOf k b i (Request.Preempt now) = preemptNote (b i) now ((b i) .state)
+noteOf k b i (Request.Block now) = blockNote (b i) now ((b i) .state)
+noteOf k b i Request.Wake = wakeNote (b i) ((b i) .state)
+noteOf k b i (Request.SetAffinity m) = maskNote (b i) (clipped m (k .pcpus)) ((b i) .state)
+noteOf k b i (Request.Offline now) = offlineNote (b i) (fullMask (k .pcpus)) now ((b i) .state)
+
 -- the first n vCPUs of domain d taken offline, one after another; one that is Offline stays as it is
 unfoldable pub offlineLines : Shape → Book → ℕ → ℕ → ℕ → Entry
 offlineLines k b d now zero = unwritten (told Done) b
 offlineLines k b d now (suc n) =
     let e = offlineLines k b d now n in
-    let l = (e .book) (d * 8 + n) in
-    joined e (entered (e .book) (d * 8 + n) (offlineNote l (fullMask (k .pcpus)) now (l .state)))
+    let i = d * 8 + n in
+    joined e (entered (e .book) i (noteOf k (e .book) i (Request.Offline now)))
 
 -- an advance's moves, in order, at its clock
 abbrev pub moved : Book → ℕ → Choice → Entry
@@ -166,18 +177,9 @@ movedAll b now (c ∷ cs) = let e = moved b now c in joined e (movedAll (e .book
 
 -- a call, with the moves that it enacted
 unfoldable pub enter : Shape → Book → Call → List Choice → Entry
-enter k b (Call.Admit d v) ms = let l = b (d * 8 + v) in identified k b d v (admitNote l (l .state))
-enter k b (Call.Run d v p now) ms =
-    let l = b (d * 8 + v) in
-    cond (ltb p (k .pcpus)) (identified k b d v (runNote l p (some (holder k b p)) now (l .state))) (unwritten (told BadPcpu) b)
-enter k b (Call.Preempt d v now) ms = let l = b (d * 8 + v) in identified k b d v (preemptNote l now (l .state))
-enter k b (Call.Block d v now) ms = let l = b (d * 8 + v) in identified k b d v (blockNote l now (l .state))
-enter k b (Call.Wake d v) ms = let l = b (d * 8 + v) in identified k b d v (wakeNote l (l .state))
-enter k b (Call.Offline d v now) ms =
-    let l = b (d * 8 + v) in identified k b d v (offlineNote l (fullMask (k .pcpus)) now (l .state))
+enter k b (Call.Ask d v q) ms =
+    cond (reaches q (k .pcpus)) (identified k b d v (noteOf k b (d * 8 + v) q)) (unwritten (told BadPcpu) b)
 enter k b (Call.OfflineAll d now) ms = cond (ltb d (k .domains)) (offlineLines k b d now (k .vcpus)) (unwritten (told Done) b)
-enter k b (Call.SetAffinity d v m) ms =
-    let l = b (d * 8 + v) in identified k b d v (maskNote l (clipped m (k .pcpus)) (l .state))
 enter k b (Call.SetWeight d v w) ms = unwritten (told Done) b
 enter k b (Call.SetWakeBoost on) ms = unwritten (told Done) b
 enter k b (Call.Advance now) ms = movedAll b now ms

@@ -7,8 +7,9 @@ use Rattle.rows.specs.Rows.{Row, row, rows, AllDue}
 use Rattle.system.specs.declared.RunState.{RunState}
 use Rattle.system.specs.declared.RunState.the-variants.{Offline, Runnable, Running, Blocked}
 use Rattle.moves.specs.declared.Choice.the-variants.{Run, Preempt}
-use Rattle.scan.specs.Scan.{Pick, nobody, at}
-use Rattle.host.specs.declared.Call.{Call}
+use Rattle.scans.specs.Scan.{Pick, nobody, at}
+use Rattle.calls.specs.declared.Call.{Call}
+use Rattle.calls.specs.Asked as call
 use Rattle.host.specs.Computing.{computing}
 use Rattle.demand3.specs.Dated.{Direction, onto, off, Dated}
 use Rattle.demand3.specs.Book.{Line, Book, Shape, Entry, blankBook, holder, offlineLines, movedAll, enter}
@@ -59,23 +60,23 @@ listed (m ∷ ms) = direction (m .direction) ∷ m .slot ∷ m .pcpu ∷ m .cloc
 
 -- 0/0 runs on pCPU 1 from 5
 abbrev runs : List Call
-runs = Call.Admit 0 0 ∷ Call.Run 0 0 1 5 ∷ []
+runs = call.admit 0 0 ∷ call.run 0 0 1 5 ∷ []
 
 -- 0/0 runs on pCPU 1, and 0/1 waits and admits pCPU 0 alone
 abbrev off-mask : List Call
-off-mask = runs ++ (Call.Admit 0 1 ∷ Call.SetAffinity 0 1 1 ∷ [])
+off-mask = runs ++ (call.admit 0 1 ∷ call.setAffinity 0 1 1 ∷ [])
 
 -- 0/0 is Blocked
 abbrev sleeps : List Call
-sleeps = runs ++ (Call.Block 0 0 9 ∷ [])
+sleeps = runs ++ (call.block 0 0 9 ∷ [])
 
 -- 0/0, 0/1 and 1/1 wait, and 0/1 admits pCPU 0 alone
 abbrev waiting : List Call
-waiting = Call.Admit 0 0 ∷ Call.Admit 0 1 ∷ Call.SetAffinity 0 1 1 ∷ Call.Admit 1 1 ∷ []
+waiting = call.admit 0 0 ∷ call.admit 0 1 ∷ call.setAffinity 0 1 1 ∷ call.admit 1 1 ∷ []
 
 -- two moves of an advance at 30: 0/0 comes off pCPU 1, and 1/1 goes onto it
 abbrev advanced : Entry
-advanced = enter k (book (runs ++ (Call.Admit 1 1 ∷ []))) (Call.Advance 30) (Preempt 0 1 ∷ Run 9 1 ∷ [])
+advanced = enter k (book (runs ++ (call.admit 1 1 ∷ []))) (Call.Advance 30) (Preempt 0 1 ∷ Run 9 1 ∷ [])
 
 -- ---- the tables
 
@@ -85,24 +86,24 @@ written =
     -- at first Offline, nothing run, the mask full
     rows (line (book [] 0)) (0 ∷ 0 ∷ 0 ∷ 3 ∷ [])
     -- admit and wake make it Runnable
-    ∷ rows (line (book (Call.Admit 0 0 ∷ []) 0)) (1 ∷ 0 ∷ 0 ∷ 3 ∷ [])
-    ∷ rows (line (book (Call.Admit 0 0 ∷ Call.Block 0 0 9 ∷ Call.Wake 0 0 ∷ []) 0)) (1 ∷ 0 ∷ 0 ∷ 3 ∷ [])
+    ∷ rows (line (book (call.admit 0 0 ∷ []) 0)) (1 ∷ 0 ∷ 0 ∷ 3 ∷ [])
+    ∷ rows (line (book (call.admit 0 0 ∷ call.block 0 0 9 ∷ call.wake 0 0 ∷ []) 0)) (1 ∷ 0 ∷ 0 ∷ 3 ∷ [])
     -- run makes it Running on that pCPU from that clock, and it holds that pCPU alone
     ∷ rows (line (book runs 0)) (2 ∷ 1 ∷ 0 ∷ 3 ∷ [])
     ∷ row ((book runs 0) .clock) 5
     ∷ rows (held (holder k (book runs) 0) ∷ held (holder k (book runs) 1) ∷ []) (0 ∷ 1 ∷ [])
-    ∷ rows (listed ((next (Call.Admit 0 0 ∷ []) (Call.Run 0 0 1 5)) .moves)) (1 ∷ 0 ∷ 1 ∷ 5 ∷ [])
+    ∷ rows (listed ((next (call.admit 0 0 ∷ []) (call.run 0 0 1 5)) .moves)) (1 ∷ 0 ∷ 1 ∷ 5 ∷ [])
     -- coming off adds the ticks since that clock, none if the clock ran back
-    ∷ rows (line (book (runs ++ (Call.Preempt 0 0 12 ∷ [])) 0)) (1 ∷ 0 ∷ 7 ∷ 3 ∷ [])
-    ∷ rows (line (book (runs ++ (Call.Preempt 0 0 3 ∷ [])) 0)) (1 ∷ 0 ∷ 0 ∷ 3 ∷ [])
-    ∷ rows (line (book (runs ++ (Call.Block 0 0 12 ∷ [])) 0)) (3 ∷ 0 ∷ 7 ∷ 3 ∷ [])
-    ∷ rows (line (book (runs ++ (Call.Offline 0 0 20 ∷ [])) 0)) (0 ∷ 0 ∷ 15 ∷ 3 ∷ [])
+    ∷ rows (line (book (runs ++ (call.preempt 0 0 12 ∷ [])) 0)) (1 ∷ 0 ∷ 7 ∷ 3 ∷ [])
+    ∷ rows (line (book (runs ++ (call.preempt 0 0 3 ∷ [])) 0)) (1 ∷ 0 ∷ 0 ∷ 3 ∷ [])
+    ∷ rows (line (book (runs ++ (call.block 0 0 12 ∷ [])) 0)) (3 ∷ 0 ∷ 7 ∷ 3 ∷ [])
+    ∷ rows (line (book (runs ++ (call.offline 0 0 20 ∷ [])) 0)) (0 ∷ 0 ∷ 15 ∷ 3 ∷ [])
     -- mask stores the clipped mask; offline fills it and keeps the run time
-    ∷ rows (line (book (Call.SetAffinity 0 0 5 ∷ []) 0)) (0 ∷ 0 ∷ 0 ∷ 1 ∷ [])
-    ∷ rows (line (book (Call.Admit 0 0 ∷ Call.SetAffinity 0 0 1 ∷ Call.Offline 0 0 9 ∷ []) 0)) (0 ∷ 0 ∷ 0 ∷ 3 ∷ [])
-    ∷ rows (line (book (runs ++ (Call.Block 0 0 12 ∷ Call.Offline 0 0 99 ∷ [])) 0)) (0 ∷ 0 ∷ 7 ∷ 3 ∷ [])
+    ∷ rows (line (book (call.setAffinity 0 0 5 ∷ []) 0)) (0 ∷ 0 ∷ 0 ∷ 1 ∷ [])
+    ∷ rows (line (book (call.admit 0 0 ∷ call.setAffinity 0 0 1 ∷ call.offline 0 0 9 ∷ []) 0)) (0 ∷ 0 ∷ 0 ∷ 3 ∷ [])
+    ∷ rows (line (book (runs ++ (call.block 0 0 12 ∷ call.offline 0 0 99 ∷ [])) 0)) (0 ∷ 0 ∷ 7 ∷ 3 ∷ [])
     -- a refused call writes nothing, nor do weight and boost
-    ∷ rows (line (book (runs ++ (Call.Admit 0 0 ∷ Call.SetWeight 0 0 7 ∷ Call.SetWakeBoost false ∷ [])) 0)) (2 ∷ 1 ∷ 0 ∷ 3 ∷ [])
+    ∷ rows (line (book (runs ++ (call.admit 0 0 ∷ Call.SetWeight 0 0 7 ∷ Call.SetWakeBoost false ∷ [])) 0)) (2 ∷ 1 ∷ 0 ∷ 3 ∷ [])
     ∷ []
 
 -- offline_all takes each vCPU of its domain offline, and nobody else; of a bad domain it changes nothing
@@ -133,37 +134,37 @@ tells cs c due = row ((next cs c) .number) due
 abbrev pub answered : List Row
 answered =
     -- run tests the pCPU, the domain, the vCPU, the state, the mask and then who holds the pCPU
-    tells [] (Call.Run 2 2 2 0) 3
-    ∷ tells [] (Call.Run 2 2 0 0) 1
-    ∷ tells [] (Call.Run 0 2 0 0) 2
-    ∷ tells runs (Call.Run 0 1 1 9) 10
-    ∷ tells runs (Call.Run 0 0 0 9) 11
-    ∷ tells sleeps (Call.Run 0 0 0 9) 12
-    ∷ tells off-mask (Call.Run 0 1 1 9) 6
-    ∷ tells (runs ++ (Call.Admit 1 1 ∷ [])) (Call.Run 1 1 1 9) 5
-    ∷ tells off-mask (Call.Run 0 1 0 9) 0
+    tells [] (call.run 2 2 2 0) 3
+    ∷ tells [] (call.run 2 2 0 0) 1
+    ∷ tells [] (call.run 0 2 0 0) 2
+    ∷ tells runs (call.run 0 1 1 9) 10
+    ∷ tells runs (call.run 0 0 0 9) 11
+    ∷ tells sleeps (call.run 0 0 0 9) 12
+    ∷ tells off-mask (call.run 0 1 1 9) 6
+    ∷ tells (runs ++ (call.admit 1 1 ∷ [])) (call.run 1 1 1 9) 5
+    ∷ tells off-mask (call.run 0 1 0 9) 0
     -- the others test the domain, the vCPU and the state: Offline is told 10, Runnable 4, Running 11, Blocked 12
-    ∷ tells [] (Call.Preempt 2 2 0) 1
-    ∷ tells [] (Call.Block 1 2 0) 2
-    ∷ tells [] (Call.Admit 1 1) 0
-    ∷ tells waiting (Call.Admit 0 0) 4
-    ∷ tells runs (Call.Admit 0 0) 11
-    ∷ tells sleeps (Call.Admit 0 0) 12
-    ∷ tells [] (Call.Preempt 0 0 0) 10
-    ∷ tells waiting (Call.Preempt 0 0 0) 4
-    ∷ tells sleeps (Call.Preempt 0 0 9) 12
-    ∷ tells [] (Call.Block 0 0 0) 10
-    ∷ tells sleeps (Call.Block 0 0 9) 12
-    ∷ tells sleeps (Call.Wake 0 0) 0
-    ∷ tells [] (Call.Wake 0 0) 10
-    ∷ tells waiting (Call.Wake 0 0) 4
-    ∷ tells runs (Call.Wake 0 0) 11
-    ∷ tells [] (Call.Offline 0 0 0) 10
+    ∷ tells [] (call.preempt 2 2 0) 1
+    ∷ tells [] (call.block 1 2 0) 2
+    ∷ tells [] (call.admit 1 1) 0
+    ∷ tells waiting (call.admit 0 0) 4
+    ∷ tells runs (call.admit 0 0) 11
+    ∷ tells sleeps (call.admit 0 0) 12
+    ∷ tells [] (call.preempt 0 0 0) 10
+    ∷ tells waiting (call.preempt 0 0 0) 4
+    ∷ tells sleeps (call.preempt 0 0 9) 12
+    ∷ tells [] (call.block 0 0 0) 10
+    ∷ tells sleeps (call.block 0 0 9) 12
+    ∷ tells sleeps (call.wake 0 0) 0
+    ∷ tells [] (call.wake 0 0) 10
+    ∷ tells waiting (call.wake 0 0) 4
+    ∷ tells runs (call.wake 0 0) 11
+    ∷ tells [] (call.offline 0 0 0) 10
     -- a mask, clipped, must not exclude the pCPU that the vCPU is Running on; elsewhere it may be empty
-    ∷ tells runs (Call.SetAffinity 0 0 5) 6
-    ∷ tells runs (Call.SetAffinity 0 0 0) 6
-    ∷ tells runs (Call.SetAffinity 0 0 6) 0
-    ∷ tells (Call.Admit 0 0 ∷ []) (Call.SetAffinity 0 0 0) 0
+    ∷ tells runs (call.setAffinity 0 0 5) 6
+    ∷ tells runs (call.setAffinity 0 0 0) 6
+    ∷ tells runs (call.setAffinity 0 0 6) 0
+    ∷ tells (call.admit 0 0 ∷ []) (call.setAffinity 0 0 0) 0
     -- these are never refused
     ∷ tells runs (Call.OfflineAll 2 9) 0
     ∷ tells runs (Call.SetWeight 2 2 9) 0

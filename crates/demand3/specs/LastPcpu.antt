@@ -1,6 +1,7 @@
--- Each vCPU record keeps the pCPU that it was last dispatched onto, none at first and none again after offline: by the calls alone, as
--- the book has them, and that the record has the same. It is proved as `last-kept`.
-use Prim.Native.Nat.{ℕ, _≤_}
+-- Each vCPU record keeps the pCPU that it was last dispatched onto, none at first and none again after offline: by
+-- the calls alone, as the book has them, and that the record has the same. It is proved as `machine-keeps-last` of
+-- every lawful machine, and as `last-kept` of every fresh host.
+use Prim.Native.Nat.{ℕ}
 use mathlib.Core.Bool.{cond}
 use mathlib.Core.Path.{_≡_}
 use mathlib.Core.List.{List, [], _∷_}
@@ -10,13 +11,14 @@ use Rattle.system.specs.declared.RunState.the-variants.{Offline, Runnable, Runn
 use Rattle.system.specs.declared.System.{System}
 use Rattle.system.specs.Records.{noPcpu}
 use Rattle.system.specs.Reads.{stateAt, lastAt}
-use Rattle.host.specs.declared.Host.{Host}
-use Rattle.host.specs.declared.Call.{Call}
-use Rattle.host.specs.Step.{step, hostAfter, freshHost}
+use Rattle.calls.specs.declared.Call.{Call}
+use Rattle.demand3.specs.Machine.{Machine}
+use Rattle.demand3.specs.ServiceMachine.{serviceMachine}
 use Rattle.demand3.specs.Dated.{Direction, onto, off, Dated}
 use Rattle.demand3.specs.Book.{Book, Shape, blankBook, Entry}
-use Rattle.demand3.specs.Agreement.{PresentIn}
-use Rattle.demand3.specs.Lists.{entryOf}
+use Rattle.demand3.specs.Agreement.{PresentIn, InStep}
+use Rattle.demand3.specs.Lists.{afterAll, entryOf}
+use Rattle.demand3.specs.Fresh.{Fresh, firstHost, hostAt}
 
 -- ---- by the moves
 
@@ -43,10 +45,11 @@ unlessOffline Blocked l = l
 abbrev pub lastBy : Entry → ℕ → ℕ → ℕ
 lastBy e i l = unlessOffline ((e .book i) .state) (latestOnto i l (e .moves))
 
--- and after a list of calls of a host
-unfoldable pub lastAfter : Shape → Host → Book → ℕ → ℕ → List Call → ℕ
-lastAfter k h b i l [] = l
-lastAfter k h b i l (c ∷ cs) = let e = entryOf k h b c in lastAfter k ((step h c) .host) (e .book) i (lastBy e i l) cs
+module _ (M : Machine) where
+  -- and after a list of calls of a host
+  unfoldable pub lastAfter : Shape → M .Host → Book → ℕ → ℕ → List Call → ℕ
+  lastAfter k h b i l [] = l
+  lastAfter k h b i l (c ∷ cs) = let e = entryOf M k h b c in lastAfter k (M .after h c) (e .book) i (lastBy e i l) cs
 
 -- ---- the records
 
@@ -57,9 +60,15 @@ pub record LastKept (s : System) (i l : ℕ) : Type 0 where
   pub running : (p : ℕ) → stateAt s i ≡ Running p → lastAt s i ≡ p
   pub offline : stateAt s i ≡ Offline → lastAt s i ≡ noPcpu
 
--- for every shape, every policy, every slice, 0 included, and every list, whatever its clocks do
+-- from every host in step with a book, where it is so at first
+abbrev pub EveryPointKeepsLast : Machine → Type 0
+EveryPointKeepsLast M = (k : Shape) (b : Book) (h : M .Host) → InStep k b (M .system h)
+    → let l : ℕ → ℕ = λ i. lastAt (M .system h) i in
+    ((i : ℕ) → PresentIn k i → LastKept (M .system h) i (l i))
+    → (cs : List Call) (i : ℕ) → PresentIn k i
+    → LastKept (M .system (afterAll M h cs)) i (lastAfter M k h b i (l i) cs)
+
 abbrev pub EveryLastKept : Type 0
-EveryLastKept = (d v p e u q : ℕ) → d ≤ 16 → v ≤ 8 → p ≤ 64 → (cs : List Call)
-    → let k : Shape = record { domains = d; vcpus = v; pcpus = p } in
-    let h = freshHost d v p e u q in
-    (i : ℕ) → PresentIn k i → LastKept ((hostAfter h cs) .system) i (lastAfter k h (blankBook k) i noPcpu cs)
+EveryLastKept = (f : Fresh) (cs : List Call) (i : ℕ) → PresentIn (f .shape) i
+    → let k = f .shape in
+    LastKept ((hostAt f cs) .system) i (lastAfter serviceMachine k (firstHost f) (blankBook k) i noPcpu cs)

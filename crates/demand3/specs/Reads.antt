@@ -17,10 +17,10 @@ use Rattle.system.specs.Reads.{vcpuOf, stateOf, isRunning, runtimeOf, onCpuSinc
 use Rattle.system.specs.Reads.{occupantOf, vcpuCount, fullAffinity, busyPcpus, count}
 use Rattle.verdict.specs.declared.Violation.the-variants.{None}
 use Rattle.verdict.specs.Violations.{firstViolation}
-use Rattle.scan.specs.Scan.{some}
+use Rattle.scans.specs.Scan.{some}
 use Rattle.usage.specs.Usage.{sum, usage}
 use Rattle.demand3.specs.Book.{Line, Book, Shape, holder, occupantBy}
-use Rattle.demand3.specs.Agreement.{Says}
+use Rattle.demand3.specs.Agreement.{LineSays}
 use Rattle.demand3.specs.Lists.{bookService}
 
 -- the reads of d/v, which is there, on a host of n pCPUs: what its line says
@@ -28,7 +28,7 @@ pub record ReadsLine (s : System) (d v n : ℕ) (l : Line) : Type 0 where
   -- its record
   pub read : VirtualCpu
   pub vcpu : vcpuOf s d v ≡ MaybeVcpu.Some read
-  pub says : Says l read
+  pub says : LineSays l read
   -- its parts
   pub state : stateOf s d v ≡ MaybeState.Some (l .state)
   pub running : isRunning s d v ≡ whileRunning (l .state) (λ p. true) false

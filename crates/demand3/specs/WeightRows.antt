@@ -4,7 +4,8 @@ use mathlib.Core.Bool.{false}
 use mathlib.Core.Path.{refl}
 use mathlib.Core.List.{List, [], _∷_}
 use Rattle.rows.specs.Rows.{Row, row, AllDue}
-use Rattle.host.specs.declared.Call.{Call}
+use Rattle.calls.specs.declared.Call.{Call}
+use Rattle.calls.specs.Asked as call
 use Rattle.demand3.specs.Weights.{weightThrough, weightAfter}
 
 -- of d/v, on a policy of 2 domains of 3 vCPUs
@@ -26,7 +27,7 @@ weights =
     -- another vCPU's weight, and another domain's
     ∷ row (after (Call.SetWeight 0 0 5 ∷ Call.SetWeight 0 1 7 ∷ Call.SetWeight 1 0 9 ∷ []) 0 0) 5
     -- no other call touches it, also not going offline
-    ∷ row (after (Call.SetWeight 0 0 5 ∷ Call.Admit 0 0 ∷ Call.SetWakeBoost false ∷ Call.Advance 0 ∷ Call.Offline 0 0 9 ∷ []) 0 0) 5
+    ∷ row (after (Call.SetWeight 0 0 5 ∷ call.admit 0 0 ∷ Call.SetWakeBoost false ∷ Call.Advance 0 ∷ call.offline 0 0 9 ∷ []) 0 0) 5
     -- ids out of range are ignored, of a vCPU, of a domain, and 0/8, which would stand where 1/0 does
     ∷ row (after (Call.SetWeight 0 3 5 ∷ []) 0 3) 256
     ∷ row (after (Call.SetWeight 2 0 5 ∷ []) 2 0) 256

@@ -1,21 +1,16 @@
--- The weight of each vCPU as the weight calls of a list leave it, on a policy of e domains of u vCPUs. It reads no policy.
+-- The weight of each vCPU as the weight calls of a list leave it, on a policy of e domains of u vCPUs. It reads no
+-- policy.
 use Prim.Native.Nat.{ℕ, max}
 use mathlib.Core.Bool.{cond, _&&_}
 use mathlib.Core.List.{List, [], _∷_}
 use lib.Dec.{eqb}
 use Rattle.policy.specs.Accounts.{defaultWeight, inShape}
-use Rattle.host.specs.declared.Call.{Call}
+use Rattle.calls.specs.declared.Call.{Call}
 
 -- what a call makes of the weight w of d/v: a weight call of these very ids replaces it, with 0 set as 1
 abbrev pub weightBy : ℕ → ℕ → ℕ → Call → ℕ
-weightBy d v w (Call.Admit d′ v′) = w
-weightBy d v w (Call.Run d′ v′ p now) = w
-weightBy d v w (Call.Preempt d′ v′ now) = w
-weightBy d v w (Call.Block d′ v′ now) = w
-weightBy d v w (Call.Wake d′ v′) = w
-weightBy d v w (Call.Offline d′ v′ now) = w
+weightBy d v w (Call.Ask d′ v′ q) = w
 weightBy d v w (Call.OfflineAll d′ now) = w
-weightBy d v w (Call.SetAffinity d′ v′ m) = w
 weightBy d v w (Call.SetWeight d′ v′ x) = cond (eqb d′ d && eqb v′ v) (max x 1) w
 weightBy d v w (Call.SetWakeBoost on) = w
 weightBy d v w (Call.Advance now) = w

@@ -10,7 +10,7 @@ use Rattle.system.specs.declared.Answer.the-variants.{Done, TooLarge, BadScript
 use Rattle.system.specs.Answers.{told}
 use Rattle.system.specs.Shape.{withinSizes}
 use Rattle.host.specs.declared.Host.{Host}
-use Rattle.host.specs.declared.Call.{Call}
+use Rattle.calls.specs.declared.Call.{Call}
 use Rattle.host.specs.Step.{freshHost}
 use Rattle.host.specs.Outcomes.{HostOutcome}
 use Rattle.records.specs.declared.Record.{Record}
@@ -19,10 +19,10 @@ use Rattle.records.specs.declared.Plan.{Plan}
 use Rattle.records.specs.Records.{recordAt, afterBuild, planOf}
 use Rattle.test_fields.specs.Fields.{written}
 use Rattle.test_reads.specs.declared.Query.{Query}
-use Rattle.test_reads.specs.Reads.{readsText}
+use Rattle.test_reads.specs.Reads.{readsText, readsRoom}
 use Rattle.script.specs.declared.Script.{Script}
 use Rattle.script.specs.Script.{carried}
-use Rattle.text.specs.Lines.{answerLine}
+use Rattle.text.specs.Lines.{answerLine, answerRoom}
 use Rattle.text.specs.Places.{Placed}
 use Rattle.examine.specs.declared.Written.{Written}
 
@@ -89,6 +89,10 @@ unfoldable pub text : Script → List ℕ → List ℕ
 text c bs =
     answerLine ((c .number + 1) % 2 ^ 64) ((answeredBy c bs) .number) ((answeredBy c bs) .count)
     ++ hostShown ((after c bs) .built) ((after c bs) .host) (recordAt bs)
+
+-- the most bytes that it takes
+abbrev pub entryRoom : ℕ
+entryRoom = answerRoom + readsRoom
 
 -- what is handed back of a record, and what it leaves of the bytes that it writes over
 pub record Examined (c : Script) (bs before : List ℕ) (w : Written) (out : List ℕ) : Type 0 where

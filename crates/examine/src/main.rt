@@ -12,10 +12,11 @@ ghost use Rattle.io.specs.Counts.{Counts};
 ghost use Rattle.system.specs.Shape.{withinSizes};
 ghost use Rattle.host.specs.Outcomes.{hostOutcome};
 ghost use Rattle.script.specs.Script.{carried};
-ghost use Rattle.text.specs.Lines.{answerLine};
+ghost use Rattle.test_reads.specs.Reads.{readsRoom};
+ghost use Rattle.text.specs.Lines.{answerLine, answerRoom};
 ghost use Rattle.text.specs.Places.{Placed};
-ghost use Rattle.examine.specs.Examine.{queryOf, refused, made, apart, planned, namesField, fieldWritten, answered, hostShown, Examined};
-use host::Call;
+ghost use Rattle.examine.specs.Examine.{queryOf, entryRoom, refused, made, apart, planned, namesField, fieldWritten, answered, hostShown, Examined};
+use calls::Call;
 use host::Host;
 use host::Outcome;
 use policy::Scheduler;
@@ -28,6 +29,9 @@ use system::System;
 use system::Ticks;
 use system::Vcpu;
 use test_reads::Query;
+
+// The most bytes that a record's text takes: what it is told, and what can be read of the host.
+const ENTRY_ROOM: usize = text::ANSWER_ROOM + test_reads::ROOM;
 
 // A script under way, and the bytes written for its last record.
 struct Written {
@@ -172,15 +176,15 @@ fn is_built(built: bool, told: u64) -> bool
 // ---- what is written of it
 
 fn put_answer(out: &mut [u8], number: u64, told: u64, moves: usize) -> usize
-    requires { ⌜ 63 ≤ length (now out) ⌝ }
+    requires { ⌜ answerRoom ≤ length (now out) ⌝ }
     ensures { λ r. ⌜ Placed (now (out .entry)) 0 (answerLine number told moves) (now (out .exit)) r ⌝ }
-    ensures { λ r. ⌜ r ≤ 63 ⌝ }
+    ensures { λ r. ⌜ r ≤ answerRoom ⌝ }
 {
     text::put_answer_line(out, 0, number, told, moves as u64)
 }
 
 fn put_host(out: &mut [u8], at: usize, built: bool, h: Host, r: Record) -> usize
-    requires { ⌜ at + 866 ≤ length (now out) ⌝ }
+    requires { ⌜ at + readsRoom ≤ length (now out) ⌝ }
     ensures { λ x. ⌜ Placed (now (out .entry)) at (hostShown built h r) (now (out .exit)) x ⌝ }
 {
     if built {
@@ -191,7 +195,7 @@ fn put_host(out: &mut [u8], at: usize, built: bool, h: Host, r: Record) -> usize
 }
 
 fn examined(s: Script, bytes: &[u8], out: &mut [u8]) -> Written
-    requires { ⌜ 929 ≤ length (now out) ⌝ }
+    requires { ⌜ entryRoom ≤ length (now out) ⌝ }
     ensures { λ w. ⌜ Examined s (now (bytes .entry)) (now (out .entry)) w (now (out .exit)) ⌝ }
 {
     let r = records::record_at(bytes);
@@ -223,7 +227,7 @@ struct After {
 }
 
 fn turn(s: Script, record: &[u8], output: &mut [u8]) -> After
-    requires { ⌜ 929 ≤ length (now output) ⌝ }
+    requires { ⌜ entryRoom ≤ length (now output) ⌝ }
 {
     let w = examined(s, record, output);
     let script = w.script;
@@ -247,8 +251,8 @@ fn read(input: &mut [u8]) -> usize
 }
 
 fn main() {
-    let mut input = [0u8; 20];
-    let mut output = [0u8; 929];
+    let mut input = [0u8; records::RECORD];
+    let mut output = [0u8; ENTRY_ROOM];
     let mut s = Script::new();
     // a proved loop has to end, and nothing says that the input does
     let mut turns = u64::MAX;

@@ -4,14 +4,14 @@ use mathlib.Core.Bool.{Bool, true, false, cond}
 use mathlib.Core.Path.{_≡_, refl}
 use mathlib.Core.Logic.{_⊎_, inl, inr, _≢_}
 use native.Mathlib.Omega.{arith}
-use Rattle.masks.specs.Masks.{permits}
+use Rattle.masks.specs.Masks.{permits, fullMask, clipped}
 use Rattle.system.specs.declared.RunState.{RunState}
 use Rattle.system.specs.declared.RunState.the-variants.{Offline, Runnable, Running, Blocked}
 use Rattle.system.specs.declared.VirtualCpu.{VirtualCpu}
 use Rattle.system.specs.declared.Answer.the-variants.{NotAffine, FoundOffline, FoundRunnable}
 use Rattle.system.specs.Answers.{told}
 use Rattle.system.specs.Records.{withMask}
-use Rattle.changes.specs.declared.Request.{Request}
+use Rattle.calls.specs.declared.Request.{Request}
 use Rattle.changes.specs.declared.Change.{Change}
 use Rattle.changes.specs.declared.Change.the-variants.{Refuse, Write, Enter, Leave}
 use Rattle.changes.specs.Records.{dispatched}
@@ -47,7 +47,8 @@ affine : {st : RunState} (b : Bool) (c : Change) → Ordinary c → View true st
 affine true c o = takes refl o
 affine false c o = takes {c = Refuse NotAffine} refl (record { small = omega arith; other = λ e. omega arith })
 
-module _ (v : VirtualCpu) (full : ℕ) where
+-- on a host of n pCPUs
+module _ (v : VirtualCpu) (n : ℕ) where
   -- what a request does in a state
   abbrev changedIn : Request → RunState → Change
   changedIn Request.Admit st = admitted v st
@@ -55,8 +56,8 @@ module _ (v : VirtualCpu) (full : ℕ) where
   changedIn (Request.Preempt now) st = preempted v now st
   changedIn (Request.Block now) st = blocked v now st
   changedIn Request.Wake st = woken v st
-  changedIn (Request.SetAffinity m) st = masked v m st
-  changedIn (Request.Offline now) st = offlined v full now st
+  changedIn (Request.SetAffinity m) st = masked v (clipped m n) st
+  changedIn (Request.Offline now) st = offlined v (fullMask n) now st
 
   view : (q : Request) (st : RunState) → View (accepts q st) st (changedIn q st)
   view Request.Admit Offline = takes refl tt
@@ -81,14 +82,14 @@ module _ (v : VirtualCpu) (full : ℕ) where
   view Request.Wake Blocked = takes refl tt
   view (Request.SetAffinity m) Offline = takes refl tt
   view (Request.SetAffinity m) Runnable = takes refl tt
-  view (Request.SetAffinity m) (Running p) = affine (permits m p) (Write (withMask v m)) tt
+  view (Request.SetAffinity m) (Running p) = affine (permits (clipped m n) p) (Write (withMask v (clipped m n))) tt
   view (Request.SetAffinity m) Blocked = takes refl tt
   view (Request.Offline now) Offline = refuses refl
   view (Request.Offline now) Runnable = takes refl tt
   view (Request.Offline now) (Running p) = takes refl tt
   view (Request.Offline now) Blocked = takes refl tt
 
-  pub changed-view : (q : Request) → View (accepts q (v .state)) (v .state) (changed q full v)
+  pub changed-view : (q : Request) → View (accepts q (v .state)) (v .state) (changed q n v)
   changed-view Request.Admit = view Request.Admit (v .state)
   changed-view (Request.Run p now) = view (Request.Run p now) (v .state)
   changed-view (Request.Preempt now) = view (Request.Preempt now) (v .state)

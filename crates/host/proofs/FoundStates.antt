@@ -6,7 +6,7 @@ use mathlib.Core.Logic.{inl, inr}
 use native.Mathlib.Omega.{arith}
 use lib.Dec.{ltb}
 use borrow.Author.Tests.{ltb-true, lt-ltb}
-use Rattle.scan.specs.Booleans.{zero-one}
+use Rattle.scans.specs.Booleans.{zero-one}
 use Rattle.system.specs.declared.RunState.{RunState}
 use Rattle.system.specs.declared.RunState.the-variants.{Offline, Runnable, Running, Blocked}
 use Rattle.system.specs.declared.System.{System}
@@ -15,19 +15,19 @@ use Rattle.system.specs.declared.MaybeState.the-variants.{Some}
 use Rattle.system.specs.declared.Answer.{Answer}
 use Rattle.system.specs.declared.Answer.the-variants.{Done, BadDomain, BadVcpu, BadPcpu, PcpuBusy, Unsound}
 use Rattle.system.specs.Answers.{told, SystemOutcome}
-use Rattle.system.specs.Reads.{vcpuAt, stateAt, occupantAt, isIdle, vcpuOf, stateOf, fullAffinity}
+use Rattle.system.specs.Reads.{vcpuAt, stateAt, occupantAt, isIdle, vcpuOf, stateOf}
 use Rattle.system.specs.Slots.{domains, vcpus, pcpus, slot}
 use Rattle.verdict.specs.Violations.{firstViolation, isNone, invariantsHold}
 use Rattle.verdict.specs.Sound.{is-none}
-use Rattle.changes.specs.declared.Request.{Request}
+use Rattle.calls.specs.declared.Request.{Request}
 use Rattle.changes.specs.declared.Change.{Change}
 use Rattle.changes.specs.declared.Change.the-variants.{Refuse, Write, Enter, Leave}
 use Rattle.changes.specs.Changes.{foundIn, reaches}
-use Rattle.changes.specs.Found.{TellsState, done-tells, unsound-tells}
+use Rattle.changes.specs.StateTold.{TellsState, done-tells, unsound-tells}
 use Rattle.sched.specs.Steps.{done, tested, applied, made, requested}
-use Rattle.sched.specs.Found.{requested-tells, offline-all-tells}
+use Rattle.sched.specs.StateTold.{requested-tells, offline-all-tells}
 use Rattle.advance.specs.Answered.{advance-answered}
-use Rattle.host.specs.declared.Call.{Call}
+use Rattle.calls.specs.declared.Call.{Call}
 use Rattle.host.specs.Step.{step}
 use Rattle.host.specs.FoundStates.{accepts, Finds, ToldWhere, EveryFound}
 use Rattle.host.proofs.Accepting.{Found, Unfound, apart, Ordinary, View, refuses, takes, changed-view}
@@ -79,7 +79,7 @@ module _ (s : System) (d v : ℕ) (q : Request) where
         domain = l;
         vcpu = m;
         state = e;
-        unaccepted = ap (accepts q) (sym there) ∙ go (changed-view (vcpuAt s (slot d v)) (fullAffinity s) q) (g .1);
+        unaccepted = ap (accepts q) (sym there) ∙ go (changed-view (vcpuAt s (slot d v)) (s .«pcpu_count») q) (g .1);
       }
     where
       go : {c : Change} → View (accepts q st) st c → Found ((applied s (slot d v) c) .number) → accepts q st ≡ false
@@ -93,7 +93,7 @@ module _ (s : System) (d v : ℕ) (q : Request) where
       let same : Some st ≡ Some x = sym (state-read (F .domain) (F .vcpu)) ∙ F .state in
       let there : st ≡ x = cc in
       rw (ap isNone (F .sound), F .pcpu, lt-ltb d (domains s) (F .domain), lt-ltb v (vcpus s) (F .vcpu))
-      (go (changed-view (vcpuAt s (slot d v)) (fullAffinity s) q) (ap (accepts q) there ∙ F .unaccepted)
+      (go (changed-view (vcpuAt s (slot d v)) (s .«pcpu_count») q) (ap (accepts q) there ∙ F .unaccepted)
       ∙ ap (λ (y : RunState). told (foundIn y)) there)
     where
       go : {c : Change} → View (accepts q st) st c → accepts q st ≡ false → (applied s (slot d v) c) .number ≡ told (foundIn st)
@@ -128,16 +128,6 @@ never T =
     none-some : {st : RunState} → MaybeState.None ≡ Some st → ⊥
     none-some e = zero-one cc
 
-masks-never : (s : System) (d v m : ℕ) → ToldWhere (λ st. ⊥) ((requested s d v (Request.SetAffinity m)) .number)
-masks-never s d v m =
-    let T = requested-found s d v (Request.SetAffinity m) in
-    record {
-      offline = ((λ e. true≢false (T .offline .0 e .unaccepted)), (λ x. absurd x));
-      runnable = ((λ e. true≢false (T .runnable .0 e .unaccepted)), (λ x. absurd x));
-      running = ((λ e. absurd (true≢false (T .running .0 e .1 .unaccepted))), (λ x. absurd (x .1)));
-      blocked = ((λ e. true≢false (T .blocked .0 e .unaccepted)), (λ x. absurd x));
-    }
-
 -- done of a sound system, 8 of any other
 either-tells : (m : MaybeState) {n : ℕ} (b : Bool) → (b ≡ true → n ≡ told Done) → (b ≡ false → n ≡ told Unsound) → TellsState m n
 either-tells m true f g = subst (TellsState m) (sym (f refl)) (done-tells m)
@@ -145,14 +135,8 @@ either-tells m false f g = subst (TellsState m) (sym (g refl)) (unsound-tells m)
 
 pub step-found : EveryFound
 unfolding step
-step-found h (Call.Admit d v) = requested-found (h .system) d v Request.Admit
-step-found h (Call.Run d v p now) = requested-found (h .system) d v (Request.Run p now)
-step-found h (Call.Preempt d v now) = requested-found (h .system) d v (Request.Preempt now)
-step-found h (Call.Block d v now) = requested-found (h .system) d v (Request.Block now)
-step-found h (Call.Wake d v) = requested-found (h .system) d v Request.Wake
-step-found h (Call.Offline d v now) = requested-found (h .system) d v (Request.Offline now)
+step-found h (Call.Ask d v q) = requested-found (h .system) d v q
 step-found h (Call.OfflineAll d now) = never (offline-all-tells (h .system) d now)
-step-found h (Call.SetAffinity d v m) = masks-never (h .system) d v _
 step-found h (Call.SetWeight d v w) = never (done-tells MaybeState.None)
 step-found h (Call.SetWakeBoost on) = never (done-tells MaybeState.None)
 step-found h (Call.Advance now) =

@@ -3,6 +3,7 @@ mod Verdicts
 mod NewHost
 mod Snapshots
 mod WakeEdges
+mod TypedRequests
 mod Accepting
 mod FoundStates
 pub mod LastSlots

@@ -3,7 +3,7 @@ use Prim.Native.Nat.{ℕ}
 use mathlib.Core.Bool.{true, false, _&&_}
 use mathlib.Core.Path.{_≡_}
 use lib.Dec.{leb}
-use Rattle.scan.specs.Booleans.{both}
+use Rattle.scans.specs.Booleans.{both}
 use Rattle.system.specs.Answers.{SystemOutcome}
 use Rattle.system.specs.Shape as system
 use Rattle.policy.specs.Accounts.{PolicyOutcome, builtPolicy}

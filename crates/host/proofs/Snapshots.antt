@@ -7,7 +7,7 @@ use Rattle.policy.specs.declared.Scheduler.{Scheduler}
 use Rattle.policy.specs.Accounts.{covers, wasSchedulable, setWeight, setWakeBoost}
 use Rattle.policy.proofs.Laws as policy
 use Rattle.host.specs.declared.Host.{Host}
-use Rattle.host.specs.declared.Call.{Call}
+use Rattle.calls.specs.declared.Call.{Call}
 use Rattle.host.specs.Step.{step, hostAfter}
 use Rattle.host.specs.WakeEdges.{NoAdvance}
 
@@ -42,14 +42,8 @@ boosted π L on =
 step-same : (h : Host) (c : Call) → ((now : ℕ) → c ≡ Call.Advance now → ⊥) → policy.Tabled (h .scheduler)
     → SameSnapshot (h .scheduler) ((step h c) .host .scheduler)
 unfolding step
-step-same h (Call.Admit d v) n L = same L
-step-same h (Call.Run d v p now) n L = same L
-step-same h (Call.Preempt d v now) n L = same L
-step-same h (Call.Block d v now) n L = same L
-step-same h (Call.Wake d v) n L = same L
-step-same h (Call.Offline d v now) n L = same L
+step-same h (Call.Ask d v q) n L = same L
 step-same h (Call.OfflineAll d now) n L = same L
-step-same h (Call.SetAffinity d v m) n L = same L
 step-same h (Call.SetWeight d v w) n L = weighed (h .scheduler) L d v w
 step-same h (Call.SetWakeBoost on) n L = boosted (h .scheduler) L on
 step-same h (Call.Advance now) n L = absurd (n now refl)

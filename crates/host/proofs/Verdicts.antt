@@ -8,10 +8,10 @@ use Rattle.system.specs.declared.Answer.the-variants.{Unsound}
 use Rattle.system.specs.Answers.{told}
 use Rattle.system.specs.declared.System.{System}
 use Rattle.system.specs.Slots.{slots}
-use Rattle.system.specs.Writes.{Tables}
+use Rattle.system.specs.Writes.{Tables, SameShape, shape-refl}
 use Rattle.verdict.specs.Sound.{Sound, sound-iff}
 use Rattle.verdict.specs.Violations.{invariantsHold}
-use Rattle.changes.specs.declared.Request.{Request}
+use Rattle.calls.specs.declared.Request.{Request}
 use Rattle.sched.specs.Invariants.{Keeps}
 use Rattle.sched.specs.Steps.{requested, offlineAll}
 use Rattle.sched.proofs.Laws.{requested-keeps, offline-all-keeps}
@@ -22,18 +22,19 @@ use Rattle.policy.proofs.Laws.{set-weight-tabled, cleared-tabled, renew-same}
 use Rattle.advance.specs.Advance.{soundAdvance, advance}
 use Rattle.advance.proofs.Laws.{advance-does}
 use Rattle.host.specs.declared.Host.{Host}
-use Rattle.host.specs.declared.Call.{Call}
+use Rattle.calls.specs.declared.Call.{Call}
 use Rattle.host.specs.Step.{step}
-use Rattle.host.specs.WakeEdges.{Tabled}
+use Rattle.host.specs.WakeEdges.{TabledHost}
 
--- the verdict on t is that on s, and its tables are as long as the code's
+-- the verdict on t is that on s, its shape is that of s, and its tables are as long as the code's
 record KeptSystem (s t : System) : Type 0 where
   pub verdict : invariantsHold t ≡ invariantsHold s
+  pub shape : SameShape s t
   pub tables : Tables t
 
 module _ (s : System) (T : Tables s) where
   same : KeptSystem s s
-  same = record { verdict = refl; tables = T }
+  same = record { verdict = refl; shape = shape-refl s; tables = T }
 
   -- by what is known of a sound system, and of one that is not
   either : (t : System) → (Sound s → Keeps s t) → (invariantsHold s ≡ false → t ≡ s) → KeptSystem s t
@@ -42,7 +43,7 @@ module _ (s : System) (T : Tables s) where
       go : (b : Bool) → invariantsHold s ≡ b → KeptSystem s t
       go true e =
           let k = sound (sound-iff s .0 e) in
-          record { verdict = sound-iff t .1 (k .sound) ∙ sym e; tables = k .shape .tables T }
+          record { verdict = sound-iff t .1 (k .sound) ∙ sym e; shape = k .shape; tables = k .shape .tables T }
       go false e = rw (unsound e) same
 
   requested-kept : (d v : ℕ) (q : Request) → KeptSystem s ((requested s d v q) .system)
@@ -66,39 +67,32 @@ advance-tabled s π now = go (invariantsHold s)
     go true = renew-same s π now (slots s) .tabled
     go false = refl
 
--- the verdict on h is that on g, and its tables are as long as the code's
+-- the verdict on h is that on g, its system's shape is that of g's, and its tables are as long as the code's
 pub record Kept (g h : Host) : Type 0 where
   pub verdict : invariantsHold (h .system) ≡ invariantsHold (g .system)
-  pub tabled : Tabled h
+  pub shape : SameShape (g .system) (h .system)
+  pub tabled : TabledHost h
 
-module _ (h : Host) (T : Tabled h) where
+module _ (h : Host) (T : TabledHost h) where
   by-system : (t : System) → KeptSystem (h .system) t → Kept h (record { system = t; scheduler = h .scheduler })
-  by-system t k = record { verdict = k .verdict; tabled = record { system = k .tables; accounts = T .accounts } }
+  by-system t k = record { verdict = k .verdict; shape = k .shape; tabled = record { system = k .tables; accounts = T .accounts } }
 
   by-policy : (π : Scheduler) → policy.Tabled π → Kept h (record { system = h .system; scheduler = π })
-  by-policy π L = record { verdict = refl; tabled = record { system = T .system; accounts = L .accounts } }
+  by-policy π L = record { verdict = refl; shape = shape-refl (h .system); tabled = record { system = T .system; accounts = L .accounts } }
 
   accounts : policy.Tabled (h .scheduler)
   accounts = record { accounts = T .accounts }
 
-  asked : (d v : ℕ) (q : Request) → Kept h (record { system = (requested (h .system) d v q) .system; scheduler = h .scheduler })
-  asked d v q = by-system _ (requested-kept (h .system) (T .system) d v q)
-
   pub step-kept : (c : Call) → Kept h ((step h c) .host)
   unfolding step
-  step-kept (Call.Admit d v) = asked d v _
-  step-kept (Call.Run d v p now) = asked d v _
-  step-kept (Call.Preempt d v now) = asked d v _
-  step-kept (Call.Block d v now) = asked d v _
-  step-kept (Call.Wake d v) = asked d v _
-  step-kept (Call.Offline d v now) = asked d v _
+  step-kept (Call.Ask d v q) = by-system _ (requested-kept (h .system) (T .system) d v q)
   step-kept (Call.OfflineAll d now) = by-system _ (offline-all-kept (h .system) (T .system) d now)
-  step-kept (Call.SetAffinity d v m) = asked d v _
   step-kept (Call.SetWeight d v w) = by-policy _ (set-weight-tabled (h .scheduler) accounts d v w)
   step-kept (Call.SetWakeBoost on) = by-policy _ (cleared-tabled (h .scheduler) accounts on)
   step-kept (Call.Advance now) =
       let k = advance-kept (h .system) (T .system) (h .scheduler) now in
       record {
         verdict = k .verdict;
+        shape = k .shape;
         tabled = record { system = k .tables; accounts = advance-tabled (h .system) (h .scheduler) now ∙ T .accounts };
       }

@@ -6,7 +6,7 @@ use mathlib.Core.List.{[], _∷_}
 use native.Mathlib.Omega.{arith}
 use lib.Dec.{ltb}
 use borrow.Author.Tests.{ltb-true}
-use Rattle.scan.specs.Booleans.{zero-one}
+use Rattle.scans.specs.Booleans.{zero-one}
 use Rattle.system.specs.declared.RunState.{RunState}
 use Rattle.system.specs.declared.RunState.the-variants.{Offline, Runnable, Running, Blocked}
 use Rattle.system.specs.declared.System.{System}
@@ -26,14 +26,15 @@ use Rattle.policy.specs.Accounts.{covers, offsetOf, wasSchedulable}
 use Rattle.policy.specs.Accounting.{accounted}
 use Rattle.policy.specs.Renewal.{not-joined}
 use Rattle.policy.proofs.Laws as policy
-use Rattle.advance.specs.Advance.{Advance, soundAdvance, advance}
+use Rattle.advance.specs.Advance.{AdvanceResult, soundAdvance, advance}
 use Rattle.advance.specs.Answered.{AdvanceAnswered, advance-answered}
 use Rattle.advance.specs.Enacting.{Does}
 use Rattle.advance.proofs.Laws.{advance-does}
 use Rattle.host.specs.declared.Host.{Host}
-use Rattle.host.specs.declared.Call.{Call}
+use Rattle.calls.specs.declared.Call.{Call}
+use Rattle.calls.specs.declared.Request.{Request}
 use Rattle.host.specs.Step.{step, hostAfter}
-use Rattle.host.specs.WakeEdges.{Tabled, StayedNoEdge, BlockAndWakeNoEdge}
+use Rattle.host.specs.WakeEdges.{TabledHost, StayedNoEdge, BlockAndWakeNoEdge}
 use Rattle.host.proofs.Snapshots.{calls-same}
 
 -- ---- an advance
@@ -44,7 +45,7 @@ advance-made : (h : Host) (now : ℕ) → (step h (Call.Advance now)) .number �
 unfolding step advance
 advance-made h now e = go (invariantsHold (h .system)) refl e
   where
-    outcome : Bool → Advance
+    outcome : Bool → AdvanceResult
     outcome b = cond b (soundAdvance (h .system) (h .scheduler) now) (record { number = told Unsound; system = h .system; policy = h .scheduler; moves = [] })
 
     go : (b : Bool) → invariantsHold (h .system) ≡ b → (outcome b) .number ≡ told Done
@@ -60,7 +61,7 @@ unfolding step advance
 next-offset h now i L f = go (invariantsHold (h .system))
   where
     go : (b : Bool)
-        → offsetOf ((cond {A = Advance} b (soundAdvance (h .system) (h .scheduler) now)
+        → offsetOf ((cond {A = AdvanceResult} b (soundAdvance (h .system) (h .scheduler) now)
         (record { number = told Unsound; system = h .system; policy = h .scheduler; moves = [] })) .policy) (i / 8) (i % 8)
         ≡ offsetOf (h .scheduler) (i / 8) (i % 8)
     go true =
@@ -135,7 +136,7 @@ block-blocks s d v now e =
     found (Running p) f = refl
     found Blocked f = absurd (omega arith)
 
-module _ (h : Host) (T : Tabled h) (t₁ d v : ℕ) (B : Blocks ((step h (Call.Advance t₁)) .host .system) d v) where
+module _ (h : Host) (T : TabledHost h) (t₁ d v : ℕ) (B : Blocks ((step h (Call.Advance t₁)) .host .system) d v) where
   -- an advance that leaves a sound system found one
   found-sound : Sound (h .system)
   unfolding step
@@ -153,12 +154,12 @@ module _ (h : Host) (T : Tabled h) (t₁ d v : ℕ) (B : Blocks ((step h (Call.A
 
   -- and its vCPU in the pool
   stays-put : (now t₂ : ℕ)
-      → offsetOf ((step (hostAfter ((step h (Call.Advance t₁)) .host) (Call.Block d v now ∷ Call.Wake d v ∷ [])) (Call.Advance t₂)) .host .scheduler)
+      → offsetOf ((step (hostAfter ((step h (Call.Advance t₁)) .host) (Call.Ask d v (Request.Block now) ∷ Call.Ask d v Request.Wake ∷ [])) (Call.Advance t₂)) .host .scheduler)
       (slot d v / 8) (slot d v % 8)
       ≡ offsetOf ((step h (Call.Advance t₁)) .host .scheduler) (slot d v / 8) (slot d v % 8)
   unfolding step hostAfter
   stays-put now t₂ =
-      stayed-no-edge h T t₁ t₂ (Call.Block d v now ∷ Call.Wake d v ∷ []) ((λ t f. zero-one cc), ((λ t f. zero-one cc), tt)) (does .number) (slot d v)
+      stayed-no-edge h T t₁ t₂ (Call.Ask d v (Request.Block now) ∷ Call.Ask d v Request.Wake ∷ []) ((λ t f. zero-one cc), ((λ t f. zero-one cc), tt)) (does .number) (slot d v)
       (present-back (does .keeps .shape) (B .present)) (sym (does .pool (slot d v)) ∙ B .in-pool)
 
 pub block-and-wake-no-edge : BlockAndWakeNoEdge

@@ -14,10 +14,10 @@ use Rattle.system.specs.Reads.{stateOf}
 use Rattle.system.specs.Slots.{domains, vcpus, pcpus}
 use Rattle.verdict.specs.declared.Violation.the-variants.{None}
 use Rattle.verdict.specs.Violations.{firstViolation}
-use Rattle.changes.specs.declared.Request.{Request}
+use Rattle.calls.specs.declared.Request.{Request}
 use Rattle.changes.specs.Changes.{reaches}
 use Rattle.host.specs.declared.Host.{Host}
-use Rattle.host.specs.declared.Call.{Call}
+use Rattle.calls.specs.declared.Call.{Call}
 use Rattle.host.specs.Step.{step}
 
 -- whether that state is one of them
@@ -47,16 +47,10 @@ pub record Finds (s : System) (d v : ℕ) (q : Request) (st : RunState) : Type 0
   pub state : stateOf s d v ≡ Some st
   pub unaccepted : accepts q st ≡ false
 
--- what a call finds so; a mask call accepts every state, and the others name no vCPU whose state is tested
+-- what a call finds so; a mask is accepted in every state, and the other calls name no vCPU whose state is tested
 abbrev pub FindsBy : Call → System → RunState → Type 0
-FindsBy (Call.Admit d v) s = Finds s d v Request.Admit
-FindsBy (Call.Run d v p now) s = Finds s d v (Request.Run p now)
-FindsBy (Call.Preempt d v now) s = Finds s d v (Request.Preempt now)
-FindsBy (Call.Block d v now) s = Finds s d v (Request.Block now)
-FindsBy (Call.Wake d v) s = Finds s d v Request.Wake
-FindsBy (Call.Offline d v now) s = Finds s d v (Request.Offline now)
+FindsBy (Call.Ask d v q) s = Finds s d v q
 FindsBy (Call.OfflineAll d now) s = λ st. ⊥
-FindsBy (Call.SetAffinity d v m) s = λ st. ⊥
 FindsBy (Call.SetWeight d v w) s = λ st. ⊥
 FindsBy (Call.SetWakeBoost on) s = λ st. ⊥
 FindsBy (Call.Advance now) s = λ st. ⊥

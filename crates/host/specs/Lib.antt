@@ -1,5 +1,4 @@
 pub mod Step
-pub mod Typed
 pub mod StepLaws
 pub mod FoundStates
 pub mod WakeEdges

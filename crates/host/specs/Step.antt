@@ -10,7 +10,7 @@ use Rattle.policy.specs.declared.Scheduler.{Scheduler}
 use Rattle.policy.specs.Accounts.{freshPolicy, setWeight, setWakeBoost}
 use Rattle.advance.specs.Advance as policy
 use Rattle.host.specs.declared.Host.{Host}
-use Rattle.host.specs.declared.Call.{Call}
+use Rattle.calls.specs.declared.Call.{Call}
 
 -- what a call is told, the host that it leaves, and the moves that it enacted, in order (none but by an advance)
 pub record Step : Type 0 where
@@ -25,18 +25,12 @@ bySystem h r = record { number = r .number; host = record { system = r .system; 
 abbrev pub byPolicy : Host → Scheduler → Step
 byPolicy h π = record { number = told Done; host = record { system = h .system; scheduler = π }; moves = [] }
 
-abbrev pub byAdvance : policy.Advance → Step
+abbrev pub byAdvance : policy.AdvanceResult → Step
 byAdvance r = record { number = r .number; host = record { system = r .system; scheduler = r .policy }; moves = r .moves }
 
 unfoldable pub step : Host → Call → Step
-step h (Call.Admit d v) = bySystem h (sched.admit (h .system) d v)
-step h (Call.Run d v p now) = bySystem h (sched.run (h .system) d v p now)
-step h (Call.Preempt d v now) = bySystem h (sched.preempt (h .system) d v now)
-step h (Call.Block d v now) = bySystem h (sched.block (h .system) d v now)
-step h (Call.Wake d v) = bySystem h (sched.wake (h .system) d v)
-step h (Call.Offline d v now) = bySystem h (sched.offline (h .system) d v now)
+step h (Call.Ask d v q) = bySystem h (sched.requested (h .system) d v q)
 step h (Call.OfflineAll d now) = bySystem h (sched.offlineAll (h .system) d now)
-step h (Call.SetAffinity d v m) = bySystem h (sched.setAffinity (h .system) d v m)
 step h (Call.SetWeight d v w) = byPolicy h (setWeight (h .scheduler) d v w)
 step h (Call.SetWakeBoost on) = byPolicy h (setWakeBoost (h .scheduler) on)
 step h (Call.Advance now) = byAdvance (policy.advance (h .system) (h .scheduler) now)

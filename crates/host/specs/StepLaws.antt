@@ -10,10 +10,10 @@ use Rattle.system.specs.Answers.{told, SystemOutcome}
 use Rattle.verdict.specs.Violations.{invariantsHold}
 use Rattle.sched.specs.Answered.{Answered, requested-answered, offline-all-answered}
 use Rattle.policy.specs.declared.Scheduler.{Scheduler}
-use Rattle.advance.specs.Advance.{Advance}
+use Rattle.advance.specs.Advance.{AdvanceResult}
 use Rattle.advance.specs.Answered.{AdvanceAnswered, advance-answered}
 use Rattle.host.specs.declared.Host.{Host}
-use Rattle.host.specs.declared.Call.{Call}
+use Rattle.calls.specs.declared.Call.{Call}
 use Rattle.host.specs.Step.{Step, bySystem, byPolicy, byAdvance, step}
 
 -- a listed answer is told, and a number other than 0 leaves the host as it was, with no moves
@@ -33,7 +33,7 @@ by-system h a =
 by-policy : (h : Host) (π : Scheduler) → StepAnswered h (byPolicy h π)
 by-policy h π = record { answer = Done; listed = refl; refused = λ n. absurd (n refl) }
 
-by-advance : (h : Host) {r : Advance} → AdvanceAnswered (h .system) (h .scheduler) r → StepAnswered h (byAdvance r)
+by-advance : (h : Host) {r : AdvanceResult} → AdvanceAnswered (h .system) (h .scheduler) r → StepAnswered h (byAdvance r)
 by-advance h {r} a = go (invariantsHold (h .system)) refl
   where
     same : (r .number ≡ told Done → ⊥) → ((byAdvance r) .host ≡ h) × (r .moves ≡ [])
@@ -47,14 +47,8 @@ by-advance h {r} a = go (invariantsHold (h .system)) refl
 
 pub step-answered : (h : Host) (c : Call) → StepAnswered h (step h c)
 unfolding step
-step-answered h (Call.Admit d v) = by-system h (requested-answered _ d v _)
-step-answered h (Call.Run d v p now) = by-system h (requested-answered _ d v _)
-step-answered h (Call.Preempt d v now) = by-system h (requested-answered _ d v _)
-step-answered h (Call.Block d v now) = by-system h (requested-answered _ d v _)
-step-answered h (Call.Wake d v) = by-system h (requested-answered _ d v _)
-step-answered h (Call.Offline d v now) = by-system h (requested-answered _ d v _)
+step-answered h (Call.Ask d v q) = by-system h (requested-answered _ d v q)
 step-answered h (Call.OfflineAll d now) = by-system h (offline-all-answered _ d now)
-step-answered h (Call.SetAffinity d v m) = by-system h (requested-answered _ d v _)
 step-answered h (Call.SetWeight d v w) = by-policy h _
 step-answered h (Call.SetWakeBoost on) = by-policy h _
 step-answered h (Call.Advance now) = by-advance h (advance-answered (h .system) (h .scheduler) now)
@@ -68,28 +62,16 @@ abbrev pub LeavesSystem : Host → Step → Type 0
 LeavesSystem h r = (r .host .system ≡ h .system) × (r .moves ≡ [])
 
 abbrev pub Apart : Call → Host → Step → Type 0
-Apart (Call.Admit d v) h r = LeavesPolicy h r
-Apart (Call.Run d v p now) h r = LeavesPolicy h r
-Apart (Call.Preempt d v now) h r = LeavesPolicy h r
-Apart (Call.Block d v now) h r = LeavesPolicy h r
-Apart (Call.Wake d v) h r = LeavesPolicy h r
-Apart (Call.Offline d v now) h r = LeavesPolicy h r
+Apart (Call.Ask d v q) h r = LeavesPolicy h r
 Apart (Call.OfflineAll d now) h r = LeavesPolicy h r
-Apart (Call.SetAffinity d v m) h r = LeavesPolicy h r
 Apart (Call.SetWeight d v w) h r = LeavesSystem h r
 Apart (Call.SetWakeBoost on) h r = LeavesSystem h r
 Apart (Call.Advance now) h r = Unit {0}
 
 pub step-apart : (h : Host) (c : Call) → Apart c h (step h c)
 unfolding step
-step-apart h (Call.Admit d v) = (refl, refl)
-step-apart h (Call.Run d v p now) = (refl, refl)
-step-apart h (Call.Preempt d v now) = (refl, refl)
-step-apart h (Call.Block d v now) = (refl, refl)
-step-apart h (Call.Wake d v) = (refl, refl)
-step-apart h (Call.Offline d v now) = (refl, refl)
+step-apart h (Call.Ask d v q) = (refl, refl)
 step-apart h (Call.OfflineAll d now) = (refl, refl)
-step-apart h (Call.SetAffinity d v m) = (refl, refl)
 step-apart h (Call.SetWeight d v w) = (refl, refl)
 step-apart h (Call.SetWakeBoost on) = (refl, refl)
 step-apart h (Call.Advance now) = tt

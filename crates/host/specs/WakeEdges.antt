@@ -11,11 +11,12 @@ use Rattle.system.specs.Slots.{Present}
 use Rattle.system.specs.Writes.{Tables}
 use Rattle.policy.specs.Accounts.{offsetOf}
 use Rattle.host.specs.declared.Host.{Host}
-use Rattle.host.specs.declared.Call.{Call}
+use Rattle.calls.specs.declared.Call.{Call}
+use Rattle.calls.specs.declared.Request.{Request}
 use Rattle.host.specs.Step.{step, hostAfter}
 
 -- the host's tables are as long as the code's
-pub record Tabled (h : Host) : Type 0 where
+pub record TabledHost (h : Host) : Type 0 where
   pub system : Tables (h .system)
   pub accounts : length (h .scheduler .accounts) ≡ 128
 
@@ -27,7 +28,7 @@ NoAdvance (c ∷ cs) = ((now : ℕ) → c ≡ Call.Advance now → ⊥) × NoAdv
 -- Whoever is in the pool at an advance that is made: after any calls but advances, the next advance leaves its offset as it finds it. It is
 -- proved as `stayed-no-edge`.
 abbrev pub StayedNoEdge : Type 0
-StayedNoEdge = (h : Host) → Tabled h → (t₁ t₂ : ℕ) (between : List Call) → NoAdvance between
+StayedNoEdge = (h : Host) → TabledHost h → (t₁ t₂ : ℕ) (between : List Call) → NoAdvance between
     → (step h (Call.Advance t₁)) .number ≡ told Done
     → (i : ℕ) → Present (h .system) i → pooled (h .system) i ≡ true
     → let a = (step h (Call.Advance t₁)) .host in
@@ -38,9 +39,9 @@ StayedNoEdge = (h : Host) → Tabled h → (t₁ t₂ : ℕ) (between : List Cal
 -- A block, if it is accepted, and a wake between two advances: the offset is what it was before the block. It is proved as
 -- `block-and-wake-no-edge`.
 abbrev pub BlockAndWakeNoEdge : Type 0
-BlockAndWakeNoEdge = (h : Host) → Tabled h → (t₁ now t₂ d v : ℕ)
+BlockAndWakeNoEdge = (h : Host) → TabledHost h → (t₁ now t₂ d v : ℕ)
     → let a = (step h (Call.Advance t₁)) .host in
-    let b = step a (Call.Block d v now) in
-    let c = (step (b .host) (Call.Wake d v)) .host in
+    let b = step a (Call.Ask d v (Request.Block now)) in
+    let c = (step (b .host) (Call.Ask d v Request.Wake)) .host in
     let e = (step c (Call.Advance t₂)) .host in
     b .number ≡ told Done → offsetOf (e .scheduler) d v ≡ offsetOf (a .scheduler) d v

@@ -1,22 +1,19 @@
-//! A host: a system and a policy together, a call as data, and one step.
+//! A host: a system and a policy together, and one step.
 
 ghost use mathlib.Core.Path.{_≡_};
 ghost use Rattle.system.specs.Answers.{systemOutcome};
 ghost use Rattle.advance.specs.Outcomes.{advanceOutcome};
 ghost use Rattle.host.specs.Step.{step};
-ghost use Rattle.host.specs.Typed.{Typed};
+ghost use Rattle.calls.specs.Typed.{Typed};
 ghost use Rattle.host.specs.Outcomes.{hostOutcome, stepCounted, systemHands, policyHands, advanceHands, builtHost};
 use advance::Advanced;
+use calls::Call;
 use policy::Adjusted;
 use policy::Scheduler;
-use policy::Weight;
 use system::Answer;
-use system::DomId;
-use system::Pcpu;
-use system::Stepped;
 use system::System;
 use system::Ticks;
-use system::Vcpu;
+use system::Transitioned;
 
 /// A system and the policy that drives it.
 pub struct Host {
@@ -32,61 +29,8 @@ pub struct Outcome {
     pub answer: Answer,
 }
 
-/// A call of the host.
-pub enum Call {
-    Admit {
-        dom: DomId,
-        vcpu: Vcpu,
-    },
-    Run {
-        dom: DomId,
-        vcpu: Vcpu,
-        pcpu: Pcpu,
-        now: Ticks,
-    },
-    Preempt {
-        dom: DomId,
-        vcpu: Vcpu,
-        now: Ticks,
-    },
-    Block {
-        dom: DomId,
-        vcpu: Vcpu,
-        now: Ticks,
-    },
-    Wake {
-        dom: DomId,
-        vcpu: Vcpu,
-    },
-    Offline {
-        dom: DomId,
-        vcpu: Vcpu,
-        now: Ticks,
-    },
-    OfflineAll {
-        dom: DomId,
-        now: Ticks,
-    },
-    SetAffinity {
-        dom: DomId,
-        vcpu: Vcpu,
-        mask: u64,
-    },
-    SetWeight {
-        dom: DomId,
-        vcpu: Vcpu,
-        weight: Weight,
-    },
-    SetWakeBoost {
-        enabled: bool,
-    },
-    Advance {
-        now: Ticks,
-    },
-}
-
 // What a call of the mechanism hands back.
-fn by_system(r: Stepped, p: Scheduler) -> Outcome
+fn by_system(r: Transitioned, p: Scheduler) -> Outcome
     ensures { λ x. ⌜ hostOutcome x ≡ systemHands p (systemOutcome r) ⌝ }
 {
     let system = r.system;
@@ -165,22 +109,8 @@ pub fn step(h: Host, call: Call) -> Outcome
     let s = h.system;
     let p = h.scheduler;
     match call {
-        Call::Admit { dom, vcpu } => by_system(sched::admit(s, dom, vcpu), p),
-        Call::Run {
-            dom,
-            vcpu,
-            pcpu,
-            now,
-        } => by_system(sched::run(s, dom, vcpu, pcpu, now), p),
-        Call::Preempt { dom, vcpu, now } => by_system(sched::preempt(s, dom, vcpu, now), p),
-        Call::Block { dom, vcpu, now } => by_system(sched::block(s, dom, vcpu, now), p),
-        Call::Wake { dom, vcpu } => by_system(sched::wake(s, dom, vcpu), p),
-        Call::Offline { dom, vcpu, now } => by_system(sched::offline(s, dom, vcpu, now), p),
+        Call::Ask { dom, vcpu, request } => by_system(sched::requested(s, dom, vcpu, request), p),
         Call::OfflineAll { dom, now } => by_system(sched::offline_all(s, dom, now), p),
-        Call::SetAffinity { dom, vcpu, mask } => by_system(
-            sched::set_affinity(s, dom, vcpu, mask),
-            p,
-        ),
         Call::SetWeight { dom, vcpu, weight } => by_policy(s, p.set_weight(dom, vcpu, weight)),
         Call::SetWakeBoost { enabled } => by_policy(s, p.set_wake_boost(enabled)),
         Call::Advance { now } => by_advance(advance::advance(s, p, now)),

@@ -5,7 +5,7 @@ use native.Mathlib.Nat.{lt-of-le-of-lt}
 use lib.Dec.{lit<}
 use Rattle.generator.specs.Xorshift.{after, drawnIf}
 use Rattle.generator.proofs.Laws.{after-below}
-use Rattle.records.specs.Bytes.{Fits}
+use Rattle.records.specs.Bytes.{FitsRecord}
 use Rattle.load_calls.specs.declared.Kind.{Kind}
 use Rattle.load_calls.specs.declared.Kind.the-variants.{Admit, Block, Wake, Mask, Advance}
 use Rattle.load_calls.specs.Calls.{kindOf, drawsLast, numbersDrawn, kindNumber, valueOf, called}
@@ -31,7 +31,7 @@ value-fits Wake t n l m = lit< tt
 value-fits Mask t n l m = m
 value-fits Advance t n l m = l
 
-pub call-fits : (d v x t : ℕ) → d < 2 ^ 16 → v < 2 ^ 32 → x < 2 ^ 64 → t < 2 ^ 64 → Fits (called d v x t .call)
+pub call-fits : (d v x t : ℕ) → d < 2 ^ 16 → v < 2 ^ 32 → x < 2 ^ 64 → t < 2 ^ 64 → FitsRecord (called d v x t .call)
 unfolding called numbersDrawn
 call-fits d v x t dl vl xl tl =
     record {

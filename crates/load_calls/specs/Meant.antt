@@ -1,17 +1,18 @@
 -- The call of the host that a load means, apart from how it is written as a record.
 use Prim.Native.Nat.{ℕ}
 use Rattle.generator.specs.Xorshift.{after}
-use Rattle.host.specs.declared.Call.{Call}
+use Rattle.calls.specs.declared.Call.{Call}
+use Rattle.calls.specs.declared.Request.{Request}
 use Rattle.load_calls.specs.declared.Kind.{Kind}
 use Rattle.load_calls.specs.declared.Kind.the-variants.{Admit, Block, Wake, Mask, Advance}
 use Rattle.load_calls.specs.Calls.{kindOf, numbersDrawn, idOf, called}
 
 -- of a kind, on vCPU d/v, with that mask, at that clock
 abbrev pub meantBy : Kind → ℕ → ℕ → ℕ → ℕ → Call
-meantBy Admit d v mask now = Call.Admit d v
-meantBy Block d v mask now = Call.Block d v now
-meantBy Wake d v mask now = Call.Wake d v
-meantBy Mask d v mask now = Call.SetAffinity d v mask
+meantBy Admit d v mask now = Call.Ask d v Request.Admit
+meantBy Block d v mask now = Call.Ask d v (Request.Block now)
+meantBy Wake d v mask now = Call.Ask d v Request.Wake
+meantBy Mask d v mask now = Call.Ask d v (Request.SetAffinity mask)
 meantBy Advance d v mask now = Call.Advance now
 
 -- drawn from the state x as the clock was t, where a host has d domains of v vCPUs

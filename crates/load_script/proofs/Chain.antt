@@ -6,6 +6,7 @@ use native.Mathlib.Omega.{arith}
 use Rattle.records.specs.declared.Shape.{Shape}
 use Rattle.load_script.specs.declared.Load.{Load}
 use Rattle.load_script.specs.Loads.{buildRecord, begin, chain, first, rest, loadAfter, nthRecord}
+use Rattle.load_script.specs.LoadLaws.{RecordsOfTheChain}
 
 -- a load of which record n was the last to be handed out
 abbrev pub handedOut : ℕ → Shape → ℕ → ℕ → Load
@@ -24,12 +25,11 @@ module _ (seed : ℕ) (s : Shape) (count : ℕ) where
   after-record zero = let e : count ≡ count - 0 = omega arith in rw (← e)
   after-record (suc n) = let e : count - suc n ≡ count - n - 1 = omega arith in rw (e, after-record n)
 
-  -- the count does not show in a record
-  pub record-is : (n : ℕ) → nthRecord (begin seed s count) n ≡ chain seed s n .call
-  unfolding loadAfter first chain
-  record-is zero = refl
-  record-is (suc n) = ap first (after-record n)
-
   pub first-is-build : nthRecord (begin seed s count) 0 ≡ buildRecord s
   unfolding loadAfter first
   first-is-build = refl
+
+pub record-is : RecordsOfTheChain
+unfolding loadAfter first chain
+record-is seed s count zero = refl
+record-is seed s count (suc n) = ap first (after-record seed s count n)

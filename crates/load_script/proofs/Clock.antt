@@ -1,14 +1,14 @@
 -- The clock of a load never runs back, and its generator is never at 0. Assumes nothing.
 use mathlib.Core.Path.{_≡_}
-use Prim.Native.Nat.{ℕ, zero, suc, _+_, _*_, _-_, _%_, _^_, _≤_, _<_}
+use Prim.Native.Nat.{ℕ, zero, suc, _+_, _*_, _-_, _≤_, _<_}
 use native.Mathlib.Nat.{add-zero, add-suc}
 use native.Mathlib.Omega.{arith}
-use Rattle.load_calls.specs.Calls.{later}
 use Rattle.load_calls.proofs.Laws as calls
 use Rattle.load_script.specs.declared.Load.{Load}
 use Rattle.load_script.specs.Loads.{rest, loadAfter}
+use Rattle.load_script.specs.LoadLaws.{Typed, ClockNeverBack, StepsWhole}
 use Rattle.load_script.proofs.Sizes.{by-built}
-use Rattle.load_script.proofs.Typed.{Typed, after-typed}
+use Rattle.load_script.proofs.Typed.{after-typed}
 
 -- how a load follows another
 record Follows (l m : Load) : Type 0 where
@@ -36,20 +36,19 @@ module _ (l : Load) (typed : Typed l) where
   clock-on m zero = rw add-zero (omega arith)
   clock-on m (suc k) = rw add-suc (omega (arith, clock-on m k, next (m + k) .back))
 
-  pub clock-never-back : (m n : ℕ) → m ≤ n → loadAfter m l .clock ≤ loadAfter n l .clock
-  clock-never-back m n h = let e : n ≡ m + (n - m) = omega arith in rw e (clock-on m (n - m))
-
-  -- nor on by more than 99 a record
+  -- nor does it run on by more than 99 a record
   pub clock-moves : (n : ℕ) → loadAfter n l .clock ≤ l .clock + n * 99
   unfolding loadAfter
   clock-moves zero = omega arith
   clock-moves (suc n) = omega (arith, clock-moves n, next n .most)
 
-  -- so that every step of a load's calls, fewer than 2 ^ 32, is added whole
-  pub steps-whole : l .clock ≡ 0 → (n k : ℕ) → n ≤ 2 ^ 32 → later (loadAfter n l .clock) k ≡ loadAfter n l .clock + k % 100
-  steps-whole starts n k h = calls.step-adds (loadAfter n l .clock) k (omega (arith, clock-moves n))
-
   pub state-nonzero : 0 < l .generator .state → (n : ℕ) → 0 < loadAfter n l .generator .state
   unfolding loadAfter
   state-nonzero h zero = h
   state-nonzero h (suc n) = next n .nonzero (state-nonzero h n)
+
+pub clock-never-back : ClockNeverBack
+clock-never-back l typed m n h = let e : n ≡ m + (n - m) = omega arith in rw e (clock-on l typed m (n - m))
+
+pub steps-whole : StepsWhole
+steps-whole l typed starts n k h = calls.step-adds (loadAfter n l .clock) k (omega (arith, clock-moves l typed n))

@@ -13,7 +13,7 @@ pub use Rattle.load_script.proofs.Chain.{handedOut, first-is-build, aft
 -- the same numbers make the same script, and a longer load begins with the shorter one
 pub use Rattle.load_script.proofs.Longer.{same-script, more-calls}
 -- every record fits its bytes, and is read back from the script
-pub use Rattle.load_script.proofs.Typed.{Typed, begin-typed, after-typed, record-fits, nth-read}
+pub use Rattle.load_script.proofs.Typed.{begin-typed, after-typed, record-fits, nth-read}
 -- the clock never runs back, and the generator is never at 0
 pub use Rattle.load_script.proofs.Clock.{clock-never-back, clock-moves, steps-whole, state-nonzero}
 -- a script builds the host of a load, then makes each call that is meant

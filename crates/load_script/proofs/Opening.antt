@@ -1,32 +1,25 @@
 -- What an opened load is told, and which load it is: seed 0, else a shape above the sizes, is refused. Assumes nothing.
 use mathlib.Core.Path.{_≡_, refl}
-use mathlib.Core.Bool.{true, false}
-use mathlib.Core.List.{[]}
-use Prim.Native.Nat.{ℕ, suc, _<_}
+use Prim.Native.Nat.{ℕ, suc}
 use native.Mathlib.Omega.{arith}
 use borrow.Author.Tests.{ne-eqb}
-use Rattle.system.specs.declared.Answer.the-variants.{Done, TooLarge, BadSeed}
-use Rattle.system.specs.Answers.{told}
-use Rattle.system.specs.Shape.{withinSizes}
 use Rattle.records.specs.declared.Shape.{Shape}
-use Rattle.load_script.specs.Loads.{begin, noLoad, refusedWith, opened, size, stretch, script}
+use Rattle.load_script.specs.Loads.{begin, opened, size, stretch}
+use Rattle.load_script.specs.LoadLaws.{ZeroSeedRefused, LargeShapeRefused, OthersOpened, RefusedEmpty}
 
-pub bad-seed : (s : Shape) (count : ℕ) → opened 0 s count ≡ refusedWith BadSeed
+pub bad-seed : ZeroSeedRefused
 unfolding opened
 bad-seed s count = refl
 
-module _ (seed : ℕ) (s : Shape) (count : ℕ) (h : 0 < seed) where
-  pub too-large : withinSizes (s .«num_domains») (s .«vcpus_per_domain») (s .«num_pcpus») ≡ false → opened seed s count ≡ refusedWith TooLarge
-  unfolding opened
-  too-large large = rw (ne-eqb seed 0 (λ e. omega arith), large)
+pub too-large : LargeShapeRefused
+unfolding opened
+too-large seed s count h large = rw (ne-eqb seed 0 (λ e. omega arith), large)
 
-  pub done : withinSizes (s .«num_domains») (s .«vcpus_per_domain») (s .«num_pcpus») ≡ true
-      → opened seed s count ≡ record { number = told Done; load = begin seed s count }
-  unfolding opened
-  done small = rw (ne-eqb seed 0 (λ e. omega arith), small)
+pub done : OthersOpened
+unfolding opened
+done seed s count h small = rw (ne-eqb seed 0 (λ e. omega arith), small)
 
--- a refused load hands out nothing
-pub refused-empty : script noLoad ≡ []
+pub refused-empty : RefusedEmpty
 unfolding stretch
 refused-empty = refl
 

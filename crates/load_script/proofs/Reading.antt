@@ -16,9 +16,10 @@ use Rattle.records.proofs.Laws.{plan-back}
 use Rattle.load_calls.proofs.Laws.{read-as-meant}
 use Rattle.load_script.specs.declared.Load.{Load}
 use Rattle.load_script.specs.Loads.{buildRecord, begin, chain, meantAt, first, loadAfter, script}
+use Rattle.load_script.specs.LoadLaws.{Typed}
 use Rattle.load_script.proofs.Chain.{after-record, record-is}
 use Rattle.load_script.proofs.Stretches.{from-record}
-use Rattle.load_script.proofs.Typed.{Typed, begin-typed, after-typed}
+use Rattle.load_script.proofs.Typed.{begin-typed, after-typed}
 
 module _ (seed : ℕ) (s : Shape) (count : ℕ) (fits : seed < 2 ^ 64) (slice : s .quantum < 2 ^ 64)
     (within : withinSizes (s .«num_domains») (s .«vcpus_per_domain») (s .«num_pcpus») ≡ true) where

@@ -10,20 +10,15 @@ use Rattle.system.specs.Shape.{withinSizes}
 use Rattle.records.specs.declared.Record.{Record}
 use Rattle.records.specs.declared.Shape.{Shape}
 use Rattle.records.specs.Records.{recordOf}
-use Rattle.records.specs.Bytes.{Fits}
+use Rattle.records.specs.Bytes.{FitsRecord}
 use Rattle.records.proofs.Laws.{read-back}
 use Rattle.load_calls.proofs.Laws.{call-fits, state-below, clock-below}
 use Rattle.load_script.specs.declared.Load.{Load}
 use Rattle.load_script.specs.Loads.{begin, size, first, rest, loadAfter, nthRecord, script}
+use Rattle.load_script.specs.LoadLaws.{Typed}
 use Rattle.load_script.proofs.Sizes.{by-built}
 use Rattle.load_script.proofs.Stretches.{from-record}
 use Rattle.verdict.specs.Sound.{within-sizes}
-
--- its numbers fit their types, as those of every load of a program do
-pub record Typed (l : Load) : Type 0 where
-  pub build : Fits (l .build)
-  pub state : l .generator .state < 2 ^ 64
-  pub clock : l .clock < 2 ^ 64
 
 pub begin-typed : (seed : ℕ) (s : Shape) (count : ℕ) → seed < 2 ^ 64 → s .quantum < 2 ^ 64
     → withinSizes (s .«num_domains») (s .«vcpus_per_domain») (s .«num_pcpus») ≡ true → Typed (begin seed s count)
@@ -36,12 +31,12 @@ begin-typed seed s count h q small =
     }
 
 -- what is handed out fits, and what is left stays typed
-one : (l : Load) → Typed l → Fits (first l) × Typed (rest l)
+one : (l : Load) → Typed l → FitsRecord (first l) × Typed (rest l)
 unfolding first rest
-one = by-built (λ l. Typed l → Fits (first l) × Typed (rest l)) call (λ b g t n typed. (typed .build, record { build = typed .build; state = typed .state; clock = typed .clock }))
+one = by-built (λ l. Typed l → FitsRecord (first l) × Typed (rest l)) call (λ b g t n typed. (typed .build, record { build = typed .build; state = typed .state; clock = typed .clock }))
   where
     call : (b : Record) (g : Generator) (t n : ℕ) → let l : Load = record { build = b; generator = g; clock = t; built = true; left = n } in
-        Typed l → Fits (first l) × Typed (rest l)
+        Typed l → FitsRecord (first l) × Typed (rest l)
     call b g t n typed =
         let f = typed .build in (
           call-fits (b .dom) (b .vcpu) (g .state) t (f .dom) (f .vcpu) (typed .state) (typed .clock),
@@ -58,7 +53,7 @@ module _ (l : Load) (typed : Typed l) where
   after-typed zero = typed
   after-typed (suc n) = one (loadAfter n l) (after-typed n) .1
 
-  pub record-fits : (n : ℕ) → Fits (nthRecord l n)
+  pub record-fits : (n : ℕ) → FitsRecord (nthRecord l n)
   record-fits n = one (loadAfter n l) (after-typed n) .0
 
   -- what is read of the script as record n is record n

@@ -4,14 +4,13 @@ use mathlib.Core.Bool.{Bool, true, false, _&&_, true≢false}
 use mathlib.Core.Path.{_≡_, refl, _∙_, ap}
 use mathlib.Core.Logic.{_⊎_, inl, inr}
 use mathlib.Core.List.{List}
-use lib.ListN.{getD}
 use Rattle.masks.specs.Masks.{permits}
 use Rattle.service.specs.Service.{value, moreDeserving}
 use Rattle.moves.specs.declared.Leader.{Leader}
-use Rattle.scan.specs.Scan.{some, never}
+use Rattle.scans.specs.Scan.{some, never}
 use Rattle.moves.specs.Decide.{Standings, beaten}
-use Rattle.moves.specs.Table.{rowAt, tabled}
-use Rattle.moves.specs.Internal.{StandsExpired}
+use Rattle.moves.specs.Table.{slotWeight, slotMask, slotService, tabled}
+use Rattle.moves.specs.Leads.{StandsExpired}
 use Rattle.moves.proofs.ScanSteps.{passes}
 
 -- one more slot does not beat x
@@ -28,15 +27,13 @@ unbeaten t i x h e =
     fails true true c (inr (inl e)) = absurd (true≢false e)
     fails true true c (inl e) = absurd (true≢false e)
 
-module _ (kind mask service weight : List ℕ) (x : Leader) (h : StandsExpired kind mask service weight x) where
+module _ (t : List ℕ) (x : Leader) (h : StandsExpired t x) where
   -- the runner's numbers are those of its slot
-  pub admits-same : (j : ℕ) →
-      let t = tabled kind mask service weight 0 in
-      permits (getD mask j 0) (x .pcpu) ≡ permits (t .mask j) (t .on (x .at))
+  pub admits-same : (j m : ℕ) → m ≡ slotMask t j → permits m (x .pcpu) ≡ permits (tabled t 0 .mask j) (tabled t 0 .on (x .at))
   unfolding tabled
-  admits-same j = ap (permits (getD mask j 0)) (h .placed)
+  admits-same j m e = cc
 
-  pub beats-same : (j : ℕ) (l : List ℕ) → l ≡ rowAt service j
-      → moreDeserving (value l) (getD weight j 0) (value (x .service)) (x .weight) ≡ tabled kind mask service weight 0 .beats j (x .at)
+  pub beats-same : (j : ℕ) (l : List ℕ) → l ≡ slotService t j
+      → moreDeserving (value l) (slotWeight t j) (value (x .service)) (x .weight) ≡ tabled t 0 .beats j (x .at)
   unfolding tabled
   beats-same j l e = cc

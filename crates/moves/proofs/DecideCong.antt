@@ -5,11 +5,11 @@ use mathlib.Core.Path.{_≡_, refl, sym, _∙_, ap, ap₂}
 use mathlib.Core.Logic.{inl, inr}
 use lib.Dec.{ltb}
 use borrow.Author.Tests.{ltb-true}
-use Rattle.scan.specs.Booleans.{both}
+use Rattle.scans.specs.Booleans.{both}
 use Rattle.masks.specs.Masks.{permits}
 use Rattle.masks.specs.Laws.{first-cong}
 use Rattle.moves.specs.declared.Choice.the-variants.{Run, Preempt}
-use Rattle.scan.specs.Scan.{Pick, nobody, at, some, scan-sound, scan-cong, never}
+use Rattle.scans.specs.Scan.{Pick, nobody, at, some, scan-sound, scan-cong, never}
 use Rattle.moves.specs.Decide.{Standings, Involved, usable, firstIdlePcpuFor, placement, placeable, beaten, loses, chosen, victim}
 use Rattle.moves.specs.Decide.{orPreempt, orRun, decide}
 

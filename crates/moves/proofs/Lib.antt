@@ -4,4 +4,7 @@ mod PlacementLoop
 mod PreemptionLoop
 mod BeatenLoop
 mod Leaders
+mod IdleSets
+mod Log
+mod SettleLoop
 mod DecideCong

@@ -9,7 +9,7 @@ use lib.Dec.{ltb}
 use Rattle.masks.specs.Masks.{permits, first}
 use Rattle.moves.specs.declared.Choice.{Choice}
 use Rattle.moves.specs.declared.Choice.the-variants.{Run, Preempt, Rest}
-use Rattle.scan.specs.Scan.{Pick, nobody, at, scan, some, never}
+use Rattle.scans.specs.Scan.{Pick, nobody, at, scan, some, never}
 
 -- what is known of the slots and the pCPUs
 pub record Standings : Type 0 where
@@ -68,9 +68,9 @@ orRun t (at i) r = Run i (placement t i)
 unfoldable pub decide : Standings → ℕ → Choice
 decide t n = orRun t (chosen t n) (orPreempt t (victim t n))
 
--- the same, but nobody was last on any pCPU: a decision over these is by the rule that the Rust decides by
-abbrev pub cold : Standings → Standings
-cold t =
+-- the same, but nobody was last on any pCPU: a decision over these is by the rule that upstream decides by
+abbrev pub byLowest : Standings → Standings
+byLowest t =
     record {
       waits = t .waits;
       expired = t .expired;

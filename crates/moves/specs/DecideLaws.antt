@@ -7,12 +7,12 @@ use native.Mathlib.Decide.{decLe}
 use native.Mathlib.Omega.{arith}
 use lib.Dec.{ltb}
 use borrow.Author.Tests.{ltb-true, lt-ltb}
-use Rattle.scan.specs.Booleans.{both, all-two, zero-one}
+use Rattle.scans.specs.Booleans.{both, all-two, zero-one}
 use Rattle.masks.specs.Masks.{bit, permits}
 use Rattle.masks.specs.Laws.{first-least}
 use Rattle.moves.specs.declared.Choice.{Choice}
 use Rattle.moves.specs.declared.Choice.the-variants.{Run, Preempt, Rest}
-use Rattle.scan.specs.Scan.{Pick, nobody, at, scan, some, scan-sound, scan-complete, scan-least, scan-earliest, Ranks, never}
+use Rattle.scans.specs.Scan.{Pick, nobody, at, scan, some, scan-sound, scan-complete, scan-least, scan-earliest, Ranks, never}
 use Rattle.moves.specs.Decide.{Standings, usable, firstIdlePcpuFor, placement, placeable, beaten, loses, chosen, victim}
 use Rattle.moves.specs.Decide.{orPreempt, orRun, decide}
 

@@ -3,5 +3,9 @@ pub mod DecideLaws
 pub mod BackToLast
 pub mod Unique
 pub mod Table
-pub mod Internal
+pub mod TableWrites
+pub mod Settling
+pub mod SettlingLaws
+pub mod Leads
 pub mod Rows
+pub mod SettlingRows

@@ -6,10 +6,10 @@ use mathlib.Core.List.{List, [], _∷_}
 use lib.Dec.{eqb, ltb}
 use Rattle.rows.specs.Rows.{Row, rows, AllDue}
 use Rattle.masks.specs.Masks.{permits, first}
-use Rattle.scan.specs.Scan.{scan}
+use Rattle.scans.specs.Scan.{scan}
 use Rattle.moves.specs.declared.Choice.{Choice}
 use Rattle.moves.specs.declared.Choice.the-variants.{Run, Preempt, Rest}
-use Rattle.moves.specs.Decide.{Standings, firstIdlePcpuFor, placement, placeable, beaten, loses, chosen, victim, decide, cold}
+use Rattle.moves.specs.Decide.{Standings, firstIdlePcpuFor, placement, placeable, beaten, loses, chosen, victim, decide, byLowest}
 
 -- 1 for a dispatch, 2 for a preemption, 0 for neither, then the slot and the pCPU
 abbrev read : Choice → List ℕ
@@ -77,8 +77,8 @@ table =
     ∷ rows (decidedBack 9 admitsAll (λ i. 67)) (1 ∷ 1 ∷ 0 ∷ [])
     -- the earlier of two alike is picked, though the later alone could go back, and onto that pCPU
     ∷ rows (decidedBack 8 admitsAll (λ i. i + 1)) (1 ∷ 1 ∷ 3 ∷ [])
-    -- by the rule that the Rust decides by: onto 0
-    ∷ rows (read (decide (cold (standing 6 0 9 admitsAll (λ i. 3) lastWins)) 4)) (1 ∷ 1 ∷ 0 ∷ [])
+    -- by the rule that upstream decides by: onto 0
+    ∷ rows (read (decide (byLowest (standing 6 0 9 admitsAll (λ i. 3) lastWins)) 4)) (1 ∷ 1 ∷ 0 ∷ [])
     ∷ []
 
 pub rows-due : AllDue table

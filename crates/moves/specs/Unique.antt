@@ -6,10 +6,10 @@ use mathlib.Core.Path.{_≡_, refl, sym, _∙_, ap}
 use mathlib.Core.Logic.{inl, inr}
 use native.Mathlib.Decide.{ℕ-discrete, decLe}
 use native.Mathlib.Omega.{arith}
-use Rattle.scan.specs.Booleans.{zero-one}
+use Rattle.scans.specs.Booleans.{zero-one}
 use Rattle.moves.specs.declared.Choice.{Choice}
 use Rattle.moves.specs.declared.Choice.the-variants.{Run, Preempt, Rest}
-use Rattle.scan.specs.Scan.{Ranks}
+use Rattle.scans.specs.Scan.{Ranks}
 use Rattle.moves.specs.Decide.{Standings, Involved, placement, decide}
 use Rattle.moves.specs.DecideLaws.{Fits, Beats, run-fits, run-placed, run-found, preempt-beaten, rest-unbeaten}
 use Rattle.moves.specs.DecideLaws.{pick-least, pick-earliest, victim-worst, victim-earliest}

@@ -1,13 +1,13 @@
 -- `next` and `advance` are the page's, of any system and any policy. Assumes nothing.
-use Prim.Native.Nat.{ℕ, zero, suc, _/_, _%_, _<_}
+use Prim.Native.Nat.{ℕ, zero, suc, _/_, _%_}
 use mathlib.Core.Bool.{Bool, true, false, cond}
-use mathlib.Core.List.{List, [], _∷_, map}
+use mathlib.Core.List.{[], _∷_, map}
 use mathlib.Core.Path.{_≡_, refl, sym, _∙_, ap, ap₂}
 use native.Mathlib.Omega.{arith}
 use Rattle.system.specs.declared.System.{System}
-use Rattle.system.specs.Slots.{slot, slot-of}
+use Rattle.system.specs.Slots.{slot-of}
 use Rattle.verdict.specs.Violations.{invariantsHold}
-use Rattle.changes.specs.declared.Request.{Request}
+use Rattle.calls.specs.declared.Request.{Request}
 use Rattle.sched.specs.Steps.{made}
 use Rattle.moves.specs.declared.Choice.{Choice}
 use Rattle.moves.specs.declared.Choice.the-variants.{Run, Preempt, Rest}
@@ -22,8 +22,7 @@ use Rattle.advance.specs.ServiceRule.{ruleOf}
 use Rattle.advance.specs.Advance as advance
 use Rattle.advance.specs.Advance.{named}
 use Rattle.page.specs.Page as page
-use Rattle.page.specs.Page.{next, vcpu}
-use Rattle.page.specs.Page.{Told, sound}
+use Rattle.page.specs.Page.{Told}
 use Rattle.page.proofs.Next.{next-is}
 use Rattle.page.proofs.Accounting.{accounted-is}
 use Rattle.page.proofs.Verdict.{sound-is}
@@ -67,7 +66,7 @@ settle-is π now (suc k) s = step (choice s (ruleOf π) now) (λ t. settle-is π
         ap (after (decision.Preempt (i / 8) (i % 8) p)) (ih _ ∙ ap (page.settle π now k) (move-is s i (Request.Preempt now)))
     step Rest ih = refl
 
-abbrev pub advanced : advance.Advance → page.Advanced
+abbrev pub advanced : advance.AdvanceResult → page.Advanced
 advanced a = record { number = a .number; system = a .system; policy = a .policy; moves = map named (a .moves) }
 
 pub advance-is : (s : System) (π : Scheduler) (now : ℕ) → advanced (advance.advance s π now) ≡ page.advance s π now

@@ -17,8 +17,8 @@ use Rattle.system.specs.declared.MaybeState.{MaybeState}
 use Rattle.system.specs.declared.MaybeU64.{MaybeU64}
 use Rattle.system.specs.States.{whileRunning}
 use Rattle.system.specs.Reads.{vcpuAt, occupantAt, affinityPermits, count}
-use Rattle.scan.specs.Scan.{Pick, some}
-use Rattle.scan.specs.Scan as scans
+use Rattle.scans.specs.Scan.{Pick, some}
+use Rattle.scans.specs.Scan as scans
 use Rattle.usage.specs.Usage as usage
 use Rattle.usage.specs.Usage.{sum}
 use Rattle.demand3.specs.Book as slots
@@ -62,7 +62,7 @@ occupant-by-is : (r : Pick) → slots.occupantBy r ≡ occupantBy (who r)
 occupant-by-is scans.nobody = refl
 occupant-by-is (scans.at i) = refl
 
-says : {l : slots.Line} {x : VirtualCpu} → agreement.Says l x → Says (lined l) x
+says : {l : slots.Line} {x : VirtualCpu} → agreement.LineSays l x → Says (lined l) x
 says A =
     record {
       state = sym (A .state);

@@ -1,5 +1,5 @@
 -- A fresh host, and the host, the book and the moves that a list leaves, are those of demand 3. Assumes nothing.
-use Prim.Native.Nat.{ℕ, _+_, _-_, _*_, _≤_, _<_}
+use Prim.Native.Nat.{ℕ, _+_, _-_, _*_, _<_}
 use mathlib.Core.List.{List, map}
 use mathlib.Core.Path.{_≡_, refl, sym, _∙_, ap, ap₂}
 use native.Mathlib.Omega.{arith}
@@ -8,12 +8,13 @@ use Rattle.system.specs.declared.RunState.the-variants.{Offline, Runnable, Runn
 use Rattle.system.specs.declared.System.{System}
 use Rattle.policy.specs.declared.Scheduler.{Scheduler}
 use Rattle.host.specs.declared.Host.{Host}
-use Rattle.host.specs.declared.Call.{Call}
-use Rattle.host.specs.Step as host
+use Rattle.calls.specs.declared.Call.{Call}
 use Rattle.demand3.specs.Dated.{Dated}
 use Rattle.demand3.specs.Book as slots
 use Rattle.demand3.specs.Agreement.{PresentIn}
 use Rattle.demand3.specs.Lists as lists
+use Rattle.demand3.specs.Fresh as points
+use Rattle.demand3.proofs.Laws.{host-after-same}
 use Rattle.page.specs.Book as book
 use Rattle.page.specs.Page.{inFlight}
 use Rattle.page.specs.Steps.{after}
@@ -41,24 +42,28 @@ service-of-is k b r d v small =
     go Blocked = refl
 
 module _ (f : Fresh) (sized : Sized (f .shape)) where
+  -- the fresh host as demand 3 has it
+  abbrev pub whole : points.Fresh
+  whole =
+      record {
+        shape = shape (f .shape);
+        domains = f .domains;
+        vcpus = f .vcpus;
+        slice = f .slice;
+        sized = record { domains = sized .domains; vcpus = sized .vcpus; pcpus = sized .pcpus };
+      }
+
   abbrev pub fresh : Host
-  fresh = let k = f .shape in host.freshHost (k .domains) (k .vcpus) (k .pcpus) (f .domains) (f .vcpus) (f .slice)
+  fresh = points.firstHost whole
 
   abbrev pub left : List Call → Host
-  left cs = host.hostAfter fresh cs
+  left cs = points.hostAt whole cs
 
   abbrev pub kept : List Call → slots.Book
-  kept cs = lists.bookAfter (shape (f .shape)) fresh (slots.blankBook (shape (f .shape))) cs
+  kept cs = points.bookAt whole cs
 
   abbrev pub made : List Call → List Dated
-  made cs = lists.movesAfter (shape (f .shape)) fresh (slots.blankBook (shape (f .shape))) cs
-
-  -- what holds of every shape within the sizes, every policy and every slice
-  pub of-this : {P : ℕ → ℕ → ℕ → ℕ → ℕ → ℕ → Type 0} → ((d v p e u q : ℕ) → d ≤ 16 → v ≤ 8 → p ≤ 64 → P d v p e u q)
-      → P (f .shape .domains) (f .shape .vcpus) (f .shape .pcpus) (f .domains) (f .vcpus) (f .slice)
-  of-this all =
-      let k = f .shape in
-      all (k .domains) (k .vcpus) (k .pcpus) (f .domains) (f .vcpus) (f .slice) (sized .domains) (sized .vcpus) (sized .pcpus)
+  made cs = points.movesAt whole cs
 
   pub host-is : fresh ≡ page.host f
   host-is =
@@ -67,7 +72,7 @@ module _ (f : Fresh) (sized : Sized (f .shape)) where
       (new-system-is (k .domains) (k .vcpus) (k .pcpus)) (new-policy-is (f .domains) (f .vcpus) (f .slice))
 
   pub host-after-is : (cs : List Call) → page.hostAfter f cs ≡ left cs
-  host-after-is cs = sym (after-is fresh cs ∙ ap (λ (h : Host). after h cs) host-is)
+  host-after-is cs = sym (host-after-same fresh cs ∙ after-is fresh cs ∙ ap (λ (h : Host). after h cs) host-is)
 
   pub book-after-is : (cs : List Call) → page.bookAfter f cs ≡ booked (f .shape) (kept cs)
   book-after-is cs =

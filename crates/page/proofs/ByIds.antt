@@ -10,7 +10,7 @@ use borrow.Author.Tests.{ltb-true, ltb-false, lt-ltb, eq-eqb, ne-eqb}
 use Rattle.masks.specs.Masks.{fullMask}
 use Rattle.system.specs.declared.RunState.the-variants.{Offline}
 use Rattle.system.specs.Slots.{slot-of}
-use Rattle.scan.specs.Scan.{never, some}
+use Rattle.scans.specs.Scan.{never, some}
 use Rattle.demand3.specs.Dated.{Direction, onto, off, Dated}
 use Rattle.demand3.specs.Book.{Line, Book, Shape, Entry, noted, blankBook, holder}
 use Rattle.page.specs.Book as page

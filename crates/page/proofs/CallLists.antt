@@ -7,15 +7,17 @@ use mathlib.Core.Logic.{_↔_, Iff·rfl, Iff·not, Iff·and}
 use native.Mathlib.Omega.{arith}
 use Rattle.policy.specs.Accounts.{inShape}
 use Rattle.host.specs.declared.Host.{Host}
-use Rattle.host.specs.declared.Call.{Call}
+use Rattle.calls.specs.declared.Request.{Request}
+use Rattle.calls.specs.declared.Call.{Call}
 use Rattle.host.specs.Step as host
-use Rattle.host.specs.Typed as typed
+use Rattle.calls.specs.Typed as typed
+use Rattle.demand3.specs.ServiceMachine.{serviceMachine}
 use Rattle.demand3.specs.Lists as lists
 use Rattle.demand3.specs.Weights as weights
 use Rattle.page.specs.Steps as steps
 use Rattle.page.specs.Lists as page
 use Rattle.page.specs.Lists.{Clock, none, at}
-use Rattle.page.specs.DatedMoves.{clockOf, Forward, done, timed, untimed, refused}
+use Rattle.page.specs.DatedMoves.{requestClock, clockOf, Forward, done, timed, untimed, refused}
 use Rattle.page.proofs.Steps.{step-is}
 
 -- ---- a call
@@ -37,15 +39,33 @@ pub record SameCall (c : Call) : Type 0 where
   pub clock : clocked (lists.clockOf c) ≡ clockOf c
   pub advance : clocked (lists.advanceClock c) ≡ page.advanceClock c
 
+same-typed : (q : Request) → page.TypedRequest q ↔ typed.TypedRequest q
+same-typed Request.Admit = Iff·rfl
+same-typed (Request.Run p now) = Iff·rfl
+same-typed (Request.Preempt now) = Iff·rfl
+same-typed (Request.Block now) = Iff·rfl
+same-typed Request.Wake = Iff·rfl
+same-typed (Request.SetAffinity m) = Iff·rfl
+same-typed (Request.Offline now) = Iff·rfl
+
+same-request-clock : (q : Request) → clocked (lists.requestClock q) ≡ requestClock q
+same-request-clock Request.Admit = refl
+same-request-clock (Request.Run p now) = refl
+same-request-clock (Request.Preempt now) = refl
+same-request-clock (Request.Block now) = refl
+same-request-clock Request.Wake = refl
+same-request-clock (Request.SetAffinity m) = refl
+same-request-clock (Request.Offline now) = refl
+
 pub same-call : (c : Call) → SameCall c
-same-call (Call.Admit d v) = record { typed = Iff·rfl; weighs = λ e u w. refl; clock = refl; advance = refl }
-same-call (Call.Run d v p now) = record { typed = Iff·rfl; weighs = λ e u w. refl; clock = refl; advance = refl }
-same-call (Call.Preempt d v now) = record { typed = Iff·rfl; weighs = λ e u w. refl; clock = refl; advance = refl }
-same-call (Call.Block d v now) = record { typed = Iff·rfl; weighs = λ e u w. refl; clock = refl; advance = refl }
-same-call (Call.Wake d v) = record { typed = Iff·rfl; weighs = λ e u w. refl; clock = refl; advance = refl }
-same-call (Call.Offline d v now) = record { typed = Iff·rfl; weighs = λ e u w. refl; clock = refl; advance = refl }
+same-call (Call.Ask d v q) =
+    record {
+      typed = (λ t. (t .0, t .1, same-typed q .0 (t .2)), λ t. (t .0, t .1, same-typed q .1 (t .2)));
+      weighs = λ e u w. refl;
+      clock = same-request-clock q;
+      advance = refl;
+    }
 same-call (Call.OfflineAll d now) = record { typed = Iff·rfl; weighs = λ e u w. refl; clock = refl; advance = refl }
-same-call (Call.SetAffinity d v m) = record { typed = Iff·rfl; weighs = λ e u w. refl; clock = refl; advance = refl }
 same-call (Call.SetWeight d v w) = record { typed = Iff·rfl; weighs = λ e u w. refl; clock = refl; advance = refl }
 same-call (Call.SetWakeBoost on) = record { typed = Iff·rfl; weighs = λ e u w. refl; clock = refl; advance = refl }
 same-call (Call.Advance now) = record { typed = Iff·rfl; weighs = λ e u w. refl; clock = refl; advance = refl }
@@ -98,17 +118,17 @@ left-is P h c = along (λ (r : steps.Step). P (r .host)) (sym (step-is h c))
 
 -- ---- clocks that do not run back
 
-pub forward : {h : Host} {c c′ : ℕ} {cs : List Call} → Forward h c cs c′ → lists.Forward h c cs c′
+pub forward : {h : Host} {c c′ : ℕ} {cs : List Call} → Forward h c cs c′ → lists.Forward serviceMachine h c cs c′
 forward done = lists.done
 forward (timed {h} {c} {n} {c′} {x} {cs} e t l r) =
     lists.timed (done-is h x .0 e) (carries x (lists.at n) .0 t) l
-    (left-is (λ i. lists.Forward i n cs c′) h x .0 (forward r))
+    (left-is (λ i. lists.Forward serviceMachine i n cs c′) h x .0 (forward r))
 forward (untimed {h} {c} {c′} {x} {cs} t r) =
-    lists.untimed (carries x lists.none .0 t) (left-is (λ i. lists.Forward i c cs c′) h x .0 (forward r))
+    lists.untimed (carries x lists.none .0 t) (left-is (λ i. lists.Forward serviceMachine i c cs c′) h x .0 (forward r))
 forward (refused {h} {c} {c′} {x} {cs} e r) =
-    lists.refused (refused-is h x .0 e) (left-is (λ i. lists.Forward i c cs c′) h x .0 (forward r))
+    lists.refused (refused-is h x .0 e) (left-is (λ i. lists.Forward serviceMachine i c cs c′) h x .0 (forward r))
 
-pub of-forward : {h : Host} {c c′ : ℕ} {cs : List Call} → lists.Forward h c cs c′ → Forward h c cs c′
+pub of-forward : {h : Host} {c c′ : ℕ} {cs : List Call} → lists.Forward serviceMachine h c cs c′ → Forward h c cs c′
 of-forward lists.done = done
 of-forward (lists.timed {h} {c} {n} {c′} {x} {cs} e t l r) =
     timed (done-is h x .1 e) (carries x (lists.at n) .1 t) l (left-is (λ i. Forward i n cs c′) h x .1 (of-forward r))

@@ -1,16 +1,14 @@
 -- The transitions are the page's, of any system. Assumes nothing.
-use Prim.Native.Nat.{ℕ, zero, suc, _+_, _*_, _/_, _%_, _≤_, _<_, min}
-use mathlib.Core.Bool.{Bool, true, false, cond, _&&_}
-use mathlib.Core.Path.{_≡_, refl, sym, _∙_, ap, ap₂}
+use Prim.Native.Nat.{ℕ, zero, suc, _%_, _^_, _≤_, _<_, min}
+use mathlib.Core.Bool.{Bool, true, false, cond}
+use mathlib.Core.Path.{_≡_, refl, _∙_, ap, ap₂}
 use native.Mathlib.Omega.{arith}
 use lib.Dec.{ltb}
 use borrow.Author.Tests.{ltb-true}
-use Rattle.masks.specs.Masks.{clipped}
 use Rattle.system.specs.declared.RunState.{RunState}
 use Rattle.system.specs.declared.RunState.the-variants.{Offline, Runnable, Running, Blocked}
-use Rattle.system.specs.declared.VirtualCpu.{VirtualCpu}
 use Rattle.system.specs.declared.Occupant.{Occupant}
-use Rattle.system.specs.declared.Occupant.the-variants.{Idle, Vcpu}
+use Rattle.system.specs.declared.Occupant.the-variants.{Vcpu}
 use Rattle.system.specs.declared.System.{System}
 use Rattle.system.specs.declared.Answer.{Answer}
 use Rattle.system.specs.Answers.{told, SystemOutcome}
@@ -19,17 +17,16 @@ use Rattle.system.specs.Writes as writes
 use Rattle.system.specs.Reads as reads
 use Rattle.system.specs.Reads.{vcpuAt, occupantAt, fullAffinity}
 use Rattle.verdict.specs.Violations.{invariantsHold}
-use Rattle.changes.specs.declared.Request.{Request}
-use Rattle.changes.specs.declared.Change.{Change}
-use Rattle.changes.specs.declared.Change.the-variants.{Refuse, Write, Enter, Leave}
+use Rattle.calls.specs.declared.Request.{Request}
+use Rattle.changes.specs.declared.Change.the-variants.{Refuse, Enter}
 use Rattle.changes.specs.Records.{dispatched, left}
 use Rattle.changes.specs.Changes as changes
-use Rattle.changes.specs.Changes.{reaches, changed}
+use Rattle.changes.specs.Changes.{reaches}
 use Rattle.sched.specs.Steps as sched
 use Rattle.sched.specs.Steps.{applied, made, requested, tested, offlineFirst}
 use Rattle.page.specs.Page as page
 use Rattle.page.specs.Page.{times, vcpu, holder, admits}
-use Rattle.page.specs.Page.{Told, test, refused, done, sound, asked}
+use Rattle.page.specs.Page.{Told, test, done, sound, asked}
 use Rattle.page.specs.Page.{admitting, dispatching, preempting, blocking, waking, offlining, masking}
 use Rattle.page.proofs.Next.{idle-is}
 use Rattle.page.proofs.Verdict.{sound-is}
@@ -44,7 +41,7 @@ done-by s d v (Request.Run p now) = dispatching s d v p now ((vcpu s d v) .state
 done-by s d v (Request.Preempt now) = preempting s d v now ((vcpu s d v) .state)
 done-by s d v (Request.Block now) = blocking s d v now ((vcpu s d v) .state)
 done-by s d v Request.Wake = waking s d v ((vcpu s d v) .state)
-done-by s d v (Request.SetAffinity m) = masking s d v m ((vcpu s d v) .state)
+done-by s d v (Request.SetAffinity m) = masking s d v (m % 2 ^ min (s .«pcpu_count») 64) ((vcpu s d v) .state)
 done-by s d v (Request.Offline now) = offlining s d v now ((vcpu s d v) .state)
 
 tell-tested : (b : Bool) (a : Answer) (s : System) (r : SystemOutcome) → tell (tested b a s r) ≡ test b (told a) s (tell r)
@@ -101,14 +98,17 @@ made-is s d v l Request.Wake = go ((vcpu s d v) .state)
     go Blocked = refl
 made-is s d v l (Request.SetAffinity m) = go ((vcpu s d v) .state)
   where
-    go : (st : RunState) → tell (applied s (slot d v) (changes.masked (vcpu s d v) m st)) ≡ masking s d v m st
+    clip : ℕ
+    clip = m % 2 ^ min (s .«pcpu_count») 64
+
+    go : (st : RunState) → tell (applied s (slot d v) (changes.masked (vcpu s d v) clip st)) ≡ masking s d v clip st
     go Offline = refl
     go Runnable = refl
-    go (Running p) = turn (admits m p)
+    go (Running p) = turn (admits clip p)
       where
         turn : (b : Bool)
-            → tell (applied s (slot d v) (cond b (changes.masked (vcpu s d v) m Offline) (Refuse Answer.NotAffine)))
-            ≡ test b 6 s (masking s d v m Offline)
+            → tell (applied s (slot d v) (cond b (changes.masked (vcpu s d v) clip Offline) (Refuse Answer.NotAffine)))
+            ≡ test b 6 s (masking s d v clip Offline)
         turn true = refl
         turn false = refl
     go Blocked = refl
@@ -129,7 +129,7 @@ module _ (s : System) (d v : ℕ) where
   in-order q true true false l = refl
   in-order q true true true l = made-is s d v (l refl) q
 
-  pub requested-is : (q : Request) → tell (requested s d v q) ≡ test (sound s) 8 s (test (reaches q (page.pcpus s)) 3 s (asked s d v (done-by s d v q)))
+  requested-is : (q : Request) → tell (requested s d v q) ≡ test (sound s) 8 s (test (reaches q (page.pcpus s)) 3 s (asked s d v (done-by s d v q)))
   unfolding requested
   requested-is q =
       tell-tested (invariantsHold s) Answer.Unsound s _
@@ -137,26 +137,14 @@ module _ (s : System) (d v : ℕ) where
       (in-order q (reaches q (page.pcpus s)) (ltb d (page.domains s)) (ltb v (page.vcpus s))
       (λ e. let h = ltb-true v (page.vcpus s) e in omega arith))
 
-  pub admit-is : tell (sched.admit s d v) ≡ page.admit s d v
-  admit-is = requested-is Request.Admit
-
-  pub run-is : (p now : ℕ) → tell (sched.run s d v p now) ≡ page.run s d v p now
-  run-is p now = requested-is (Request.Run p now)
-
-  pub preempt-is : (now : ℕ) → tell (sched.preempt s d v now) ≡ page.preempt s d v now
-  preempt-is now = requested-is (Request.Preempt now)
-
-  pub block-is : (now : ℕ) → tell (sched.block s d v now) ≡ page.block s d v now
-  block-is now = requested-is (Request.Block now)
-
-  pub wake-is : tell (sched.wake s d v) ≡ page.wake s d v
-  wake-is = requested-is Request.Wake
-
-  pub offline-is : (now : ℕ) → tell (sched.offline s d v now) ≡ page.offline s d v now
-  offline-is now = requested-is (Request.Offline now)
-
-  pub set-affinity-is : (m : ℕ) → tell (sched.setAffinity s d v m) ≡ page.setAffinity s d v m
-  set-affinity-is m = requested-is (Request.SetAffinity (clipped m (s .«pcpu_count»)))
+  pub request-is : (q : Request) → tell (requested s d v q) ≡ page.called s d v q
+  request-is Request.Admit = requested-is Request.Admit
+  request-is (Request.Run p now) = requested-is (Request.Run p now)
+  request-is (Request.Preempt now) = requested-is (Request.Preempt now)
+  request-is (Request.Block now) = requested-is (Request.Block now)
+  request-is Request.Wake = requested-is Request.Wake
+  request-is (Request.SetAffinity m) = requested-is (Request.SetAffinity m)
+  request-is (Request.Offline now) = requested-is (Request.Offline now)
 
 pub offline-all-is : (s : System) (d now : ℕ) → tell (sched.offlineAll s d now) ≡ page.offlineAll s d now
 unfolding sched.offlineAll offlineFirst times

@@ -7,8 +7,9 @@ use borrow.Author.Tests.{eq-eqb}
 use Rattle.system.specs.declared.RunState.the-variants.{Running}
 use Rattle.system.specs.Reads.{vcpuAt}
 use Rattle.host.specs.declared.Host.{Host}
-use Rattle.host.specs.declared.Call.{Call}
+use Rattle.calls.specs.declared.Call.{Call}
 use Rattle.demand3.specs.Book as slots
+use Rattle.demand3.specs.ServiceMachine.{serviceMachine}
 use Rattle.demand3.specs.Lists as lists
 use Rattle.demand3.specs.Holding as holding
 use Rattle.demand3.specs.LastPcpu.{LastKept, lastAfter}
@@ -22,7 +23,7 @@ use Rattle.page.specs.DatedMoves.{EveryListTells, MovesTell, Keeps, Uncu
 use Rattle.page.proofs.ByIds.{shape, booked, dated, entered, line-is, holder-is, blank-is}
 use Rattle.page.proofs.Entries.{entry-is}
 use Rattle.page.proofs.CallLists.{same-call}
-use Rattle.page.proofs.AtPoints.{fresh, left, kept, made, of-this, host-is, host-after-is, book-after-is}
+use Rattle.page.proofs.AtPoints.{whole, fresh, left, kept, made, host-is, host-after-is, book-after-is}
 use Rattle.page.proofs.AtPoints.{moves-after-is, present}
 use Rattle.page.proofs.Hypotheses.{same-forward}
 use Rattle.page.proofs.Turns.{held, held-by-is, held-after-is, turns, all-at}
@@ -41,8 +42,8 @@ module _ (f : Fresh) (sized : Sized (f .shape)) (cs : List Call) where
   small : {v : ℕ} → v < k .vcpus → v < 8
   small l = omega (arith, sized .vcpus)
 
-  T : holding.MovesTell (shape k) h b (made f sized cs)
-  T = of-this f sized laws.moves-tell cs
+  T : holding.MovesTell serviceMachine (shape k) (λ p. holding.free) h b (made f sized cs)
+  T = laws.moves-tell (whole f sized) cs
 
   holding-is : (p : ℕ) → page.heldBy (booked k b) (book.holder k (booked k b) p) ≡ held (holding.holding (shape k) b p)
   holding-is p = ap (page.heldBy (booked k b)) (holder-is k b (sized .vcpus) p) ∙ held-by-is k b (slots.holder (shape k) b p)
@@ -54,7 +55,7 @@ module _ (f : Fresh) (sized : Sized (f .shape)) (cs : List Call) where
         turns = λ p. subst (Turns p page.free (map dated (made f sized cs))) (sym (holding-is p)) (turns (T .turns p));
         clocks = λ c.
             rw (entry-is k sized h b c, ← same-call c .clock)
-            (all-at (lists.clockOf c) ((lists.entryOf (shape k) h b c) .moves) (T .clocks c));
+            (all-at (lists.clockOf c) ((lists.entryOf serviceMachine (shape k) h b c) .moves) (T .clocks c));
         refusals = λ c n.
             rw (entry-is k sized h b c)
             (ap (entered k) (T .refused c (λ e. n (ap (λ (x : book.Entry). x .number) (entry-is k sized h b c) ∙ e))));
@@ -72,7 +73,7 @@ module _ (f : Fresh) (sized : Sized (f .shape)) (cs : List Call) where
       }
     where
       U : uncuts.Uncut (shape k) b c
-      U = of-this f sized laws.uncut cs c (same-forward f sized cs c .0 w)
+      U = laws.uncut (whole f sized) cs c (same-forward f sized cs c .0 w)
 
       running : (d v p : ℕ) → v < k .vcpus → (booked k b d v) .state ≡ Running p → (b (d * 8 + v)) .state ≡ Running p
       running d v p y on = ap (λ (l : book.Line). l .state) (sym (line-is k b d v (small y))) ∙ on
@@ -90,8 +91,8 @@ module _ (f : Fresh) (sized : Sized (f .shape)) (cs : List Call) where
         offline = L .offline;
       }
     where
-      L : LastKept (h .system) (d * 8 + v) (lastAfter (shape k) (fresh f sized) (slots.blankBook (shape k)) (d * 8 + v) 64 cs)
-      L = of-this f sized laws.last-kept cs (d * 8 + v) (present k sized x y)
+      L : LastKept (h .system) (d * 8 + v) (lastAfter serviceMachine (shape k) (fresh f sized) (slots.blankBook (shape k)) (d * 8 + v) 64 cs)
+      L = laws.last-kept (whole f sized) cs (d * 8 + v) (present k sized x y)
 
 pub every-list-tells : EveryListTells
 every-list-tells f sized cs =

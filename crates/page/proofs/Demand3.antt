@@ -9,20 +9,21 @@ use borrow.Author.Tests.{ltb-true, ltb-false, le-ltb}
 use Rattle.system.specs.declared.RunState.{RunState}
 use Rattle.system.specs.declared.RunState.the-variants.{Offline, Runnable, Running, Blocked}
 use Rattle.system.specs.States.{schedulable}
-use Rattle.scan.specs.Scan as scans
-use Rattle.scan.specs.Scan.{Pick}
+use Rattle.scans.specs.Scan as scans
+use Rattle.scans.specs.Scan.{Pick}
 use Rattle.moves.specs.declared.Choice.{Choice}
 use Rattle.moves.specs.declared.Choice.the-variants.{Run, Preempt, Rest}
 use Rattle.policy.specs.Accounts.{offsetOf}
 use Rattle.rules.specs.Settle as settle
 use Rattle.advance.specs.Advance.{named}
 use Rattle.host.specs.declared.Host.{Host}
-use Rattle.host.specs.declared.Call.{Call}
+use Rattle.calls.specs.declared.Call.{Call}
 use Rattle.host.specs.Step as host
 use Rattle.demand3.specs.Book as slots
 use Rattle.demand3.specs.Lists as lists
 use Rattle.demand3.specs.Weights as weights
-use Rattle.demand3.specs.Demand3.{Demand-3}
+use Rattle.demand3.specs.InPool.{InPool}
+use Rattle.demand3.specs.Demand3.{Point}
 use Rattle.demand3.proofs.Laws as laws
 use Rattle.page.specs.Book as book
 use Rattle.page.specs.Page as page
@@ -33,12 +34,12 @@ use Rattle.page.specs.Demand3.{Demand3, At, Advances, isOn, movesOn}
 use Rattle.page.proofs.Loops.{who}
 use Rattle.page.proofs.Standing.{weight-is, offset-is, service-is}
 use Rattle.page.proofs.Steps.{step-is, as-many}
-use Rattle.page.proofs.ByIds.{shape, booked, line-is, holder-is}
+use Rattle.page.proofs.ByIds.{booked, line-is, holder-is}
 use Rattle.page.proofs.Entries.{entry-is}
 use Rattle.page.proofs.CallLists.{same-clock, all-typed, weight-after-is, latest-is}
 use Rattle.page.proofs.Agreement.{agrees}
 use Rattle.page.proofs.Hypotheses.{same-pools}
-use Rattle.page.proofs.AtPoints.{fresh, left, kept, of-this, host-after-is, book-after-is, present, service-of-is}
+use Rattle.page.proofs.AtPoints.{whole, left, kept, host-after-is, book-after-is, present, service-of-is}
 
 moves-on-is : (p : ℕ) (ms : List Choice) → settle.movesOn p ms ≡ movesOn p (map named ms)
 unfolding settle.movesOn movesOn
@@ -71,8 +72,8 @@ module _ (f : Fresh) (sized : Sized (f .shape)) (cs before rest : List Call) (ty
   abbrev b : slots.Book
   b = kept f sized before
 
-  D : Demand-3 (shape k) (f .domains) (f .vcpus) (f .slice) (fresh f sized) cs
-  D = of-this f sized laws.demand-3 cs (all-typed cs .0 typed)
+  D : Point (whole f sized) cs before
+  D = laws.demand-3 (whole f sized) cs (all-typed cs .0 typed) before rest split
 
   small : {v : ℕ} → v < k .vcpus → v < 8
   small l = omega (arith, sized .vcpus)
@@ -83,11 +84,11 @@ module _ (f : Fresh) (sized : Sized (f .shape)) (cs before rest : List Call) (ty
   advances s now cs′ e =
       rw (← step-is h (Call.Advance now))
       (record {
-        few = subst (λ (n : ℕ). n ≤ 2 * k .pcpus) (as-many ms) (D .moves s before cs′ now here);
-        few-on = λ p l. subst (λ (n : ℕ). n ≤ 2) (moves-on-is p ms) (D .moves-on s before cs′ now here p l);
+        few = subst (λ (n : ℕ). n ≤ 2 * k .pcpus) (as-many ms) (D .advance s now .moves);
+        few-on = λ p l. subst (λ (n : ℕ). n ≤ 2) (moves-on-is p ms) (D .advance s now .moves-on p l);
         placed = λ d v p x y z st free on.
             let l = line-is k a d v (small y) in
-            D .placed s before cs′ now here (d * 8 + v) p (present k sized x y) z (ap (λ (m : book.Line). m .state) (sym l) ∙ st)
+            D .advance s now .placed (d * 8 + v) p (present k sized x y) z (ap (λ (m : book.Line). m .state) (sym l) ∙ st)
             (nobody-is _ (sym (holder-is k a (sized .vcpus) p) ∙ free))
             (ap (λ (m : book.Line). admits (m .mask) p) (sym l) ∙ on);
       })
@@ -98,13 +99,10 @@ module _ (f : Fresh) (sized : Sized (f .shape)) (cs before rest : List Call) (ty
       ms : List Choice
       ms = (host.step h (Call.Advance now)) .moves
 
-      here : cs ≡ before ++ (Call.Advance now ∷ cs′)
-      here = split ∙ ap (λ (l : List Call). before ++ l) e
-
   -- ---- in a pool
 
-  pool : (g : ℕ) → PoolList f g cs → lists.PoolList g (fresh f sized) cs
-  pool g P = same-pools f sized cs g .0 P
+  pool : (g : ℕ) → PoolList f g cs → InPool (whole f sized) before g
+  pool g P = D .pool g (same-pools f sized cs g .0 P)
 
   -- the weight at a slot is that of its ids
   slot-weight : (d v : ℕ) → v < k .vcpus
@@ -121,7 +119,7 @@ module _ (f : Fresh) (sized : Sized (f .shape)) (cs before rest : List Call) (ty
       serviceOf (booked k b) r d v * w e u ≤ serviceOf (booked k b) r e u * w d v + (f .slice + g - 1) * w e u
   lag g P s t r late early d v e u xd xv xe xu in-pool waits =
       rw (service-of-is k b r d v (small xv), service-of-is k b r e u (small xu), ← slot-weight d v xv, ← slot-weight e u xu)
-      (D .lag s g (pool g P) before rest split t r (same-clock _ (lists.at t) (latest-is before ∙ late)) early (d * 8 + v) (e * 8 + u)
+      (pool g P .lag s t r (same-clock _ (lists.at t) (latest-is before ∙ late)) early (d * 8 + v) (e * 8 + u)
       (present k sized xd xv) (present k sized xe xu)
       (pooled-is ((b (d * 8 + v)) .state)
       ∙ (ap (λ (l : book.Line). pooled (l .state)) (sym (line-is k b d v (small xv))) ∙ in-pool))
@@ -136,7 +134,7 @@ module _ (f : Fresh) (sized : Sized (f .shape)) (cs before rest : List Call) (ty
           let x : (d * 8 + v) / 8 ≡ d = omega arith in
           let y : (d * 8 + v) % 8 ≡ v = omega arith in
           sym (offset-is (h .scheduler) d v)
-          ∙ (ap₂ (offsetOf (h .scheduler)) (sym x) (sym y) ∙ D .offsets g (pool g P) before rest split (d * 8 + v))
+          ∙ (ap₂ (offsetOf (h .scheduler)) (sym x) (sym y) ∙ pool g P .offsets (d * 8 + v))
       -- no account has such an id
       go false e =
           let l = ltb-false v 8 e in
@@ -149,7 +147,7 @@ module _ (f : Fresh) (sized : Sized (f .shape)) (cs before rest : List Call) (ty
       let y : (d * 8 + v) % 8 ≡ v = omega (arith, small xv) in
       ap₂ (service (h .system) (h .scheduler) r) (sym x) (sym y)
       ∙ (sym (service-is (h .system) (h .scheduler) r (d * 8 + v))
-      ∙ (D .services g (pool g P) before rest split r l (d * 8 + v) (present k sized xd xv)
+      ∙ (pool g P .services r l (d * 8 + v) (present k sized xd xv)
       ∙ sym (service-of-is k b r d v (small xv))))
 
   point : At f cs before rest
@@ -157,19 +155,18 @@ module _ (f : Fresh) (sized : Sized (f .shape)) (cs before rest : List Call) (ty
       record {
         agrees =
             rw (host-after-is f sized before, book-after-is f sized before)
-            (agrees k sized b (h .system) (D .agrees before rest split) (D .reads before rest split)
-            (D .admits before rest split));
+            (agrees k sized b (h .system) (D .here .agrees) (D .here .reads) (D .here .admits));
         clipped = λ d v x y.
             rw (book-after-is f sized before, line-is k b d v (small y))
-            (D .masks before rest split (d * 8 + v) (present k sized x y));
+            (D .here .masks (d * 8 + v) (present k sized x y));
         weights = λ d v.
             rw (host-after-is f sized before)
-            (sym (weight-is (h .scheduler) d v) ∙ (D .weights before rest split d v ∙ weight-after-is f before d v));
-        slice = rw (host-after-is f sized before) (D .slice before rest split);
+            (sym (weight-is (h .scheduler) d v) ∙ (D .set .weights d v ∙ weight-after-is f before d v));
+        slice = rw (host-after-is f sized before) (D .set .slice);
         told = λ c cs′ e.
             rw (host-after-is f sized before, book-after-is f sized before)
             (sym (ap (λ (r : steps.Step). r .number) (step-is h c))
-            ∙ (D .told before cs′ c (split ∙ ap (λ (l : List Call). before ++ l) e)
+            ∙ (D .call c .told
             ∙ sym (ap (λ (x : book.Entry). x .number) (entry-is k sized h b c))));
         advances = λ s now cs′ e.
             rw (host-after-is f sized before, book-after-is f sized (before ++ (Call.Advance now ∷ []))) (advances s now cs′ e);

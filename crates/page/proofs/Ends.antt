@@ -19,7 +19,7 @@ use Rattle.verdict.specs.declared.Violation.the-variants.{None}
 use Rattle.policy.specs.declared.Scheduler.{Scheduler}
 use Rattle.advance.specs.declared.Decision.{Decision}
 use Rattle.host.specs.declared.Host.{Host}
-use Rattle.host.specs.declared.Call.{Call}
+use Rattle.calls.specs.declared.Call.{Call}
 use Rattle.page.specs.Host.{nobody, one, times, vcpu}
 use Rattle.page.specs.Host as page
 use Rattle.page.specs.Policy.{weight}

@@ -10,16 +10,19 @@ use Rattle.masks.specs.Masks.{fullMask}
 use Rattle.system.specs.declared.RunState.{RunState}
 use Rattle.system.specs.declared.RunState.the-variants.{Runnable}
 use Rattle.system.specs.Slots.{slot-of}
-use Rattle.scan.specs.Scan.{some}
+use Rattle.scans.specs.Scan.{some}
 use Rattle.moves.specs.declared.Choice.{Choice}
 use Rattle.moves.specs.declared.Choice.the-variants.{Run, Preempt, Rest}
 use Rattle.advance.specs.Advance.{named}
 use Rattle.host.specs.declared.Host.{Host}
-use Rattle.host.specs.declared.Call.{Call}
+use Rattle.calls.specs.declared.Request.{Request}
+use Rattle.calls.specs.declared.Call.{Call}
+use Rattle.changes.specs.Changes.{reaches}
 use Rattle.host.specs.Step as host
 use Rattle.demand3.specs.Dated.{onto, off}
 use Rattle.demand3.specs.Book as slots
 use Rattle.demand3.specs.Book.{Line, Book, Note, move, Entry, opened, closed, movedAll, offlineNote, offlineLines}
+use Rattle.demand3.specs.ServiceMachine.{serviceMachine}
 use Rattle.demand3.specs.Lists as lists
 use Rattle.page.specs.Book as page
 use Rattle.page.specs.Page.{somebody}
@@ -96,11 +99,11 @@ module _ (k : page.Shape) (sized : Sized k) where
       (offlining-all-is b d now n (omega arith))
       ∙ then-is e (λ a. page.offlining k a d n now ((a d n) .state)) _ (offline-is (e .book) d n now (omega arith))
 
-  pub enter-is : (b : Book) (c : Call) (ms : List Choice)
-      → page.enter k (booked k b) c (map named ms) ≡ entered k (slots.enter (shape k) b c ms)
-  unfolding page.enter page.offliningAll slots.enter
-  enter-is b (Call.Admit d v) ms = asked-is b d v slots.admitNote (λ l. admit-notes k b d v l)
-  enter-is b (Call.Run d v p now) ms = go (ltb p (k .pcpus))
+  asking-is : (b : Book) (d v : ℕ) (q : Request)
+      → page.asking k (booked k b) d v q
+      ≡ entered k (cond (reaches q (k .pcpus)) (slots.identified (shape k) b d v (slots.noteOf (shape k) b (d * 8 + v) q)) (slots.unwritten 3 b))
+  asking-is b d v Request.Admit = asked-is b d v slots.admitNote (λ l. admit-notes k b d v l)
+  asking-is b d v (Request.Run p now) = go (ltb p (k .pcpus))
     where
       busy : Bool
       busy = somebody (page.holder k (booked k b) p)
@@ -117,10 +120,20 @@ module _ (k : page.Shape) (sized : Sized k) where
           asked-is b d v (λ l. slots.runNote l p busy now) (λ l. run-notes k b d v l p now busy)
           ∙ ap (λ (t : Bool). entered k (slots.identified (shape k) b d v (note t))) (busy-is k b (sized .vcpus) p)
       go false = refl
-  enter-is b (Call.Preempt d v now) ms = asked-is b d v (λ l. slots.preemptNote l now) (λ l. preempt-notes k b d v l now)
-  enter-is b (Call.Block d v now) ms = asked-is b d v (λ l. slots.blockNote l now) (λ l. block-notes k b d v l now)
-  enter-is b (Call.Wake d v) ms = asked-is b d v slots.wakeNote (λ l. wake-notes k b d v l)
-  enter-is b (Call.Offline d v now) ms = asked-is b d v (λ l. offlineNote l (fullMask (k .pcpus)) now) (λ l. offline-is b d v now l)
+  asking-is b d v (Request.Preempt now) = asked-is b d v (λ l. slots.preemptNote l now) (λ l. preempt-notes k b d v l now)
+  asking-is b d v (Request.Block now) = asked-is b d v (λ l. slots.blockNote l now) (λ l. block-notes k b d v l now)
+  asking-is b d v Request.Wake = asked-is b d v slots.wakeNote (λ l. wake-notes k b d v l)
+  asking-is b d v (Request.SetAffinity m) =
+      let n : min (k .pcpus) 64 ≡ k .pcpus = omega (arith, sized .pcpus) in
+      let l = b (d * 8 + v) in
+      asked-is b d v (λ l. slots.maskNote l (m % 2 ^ k .pcpus)) (λ s. mask-notes k b d v s (m % 2 ^ k .pcpus))
+      ∙ ap (λ (x : ℕ). entered k (slots.identified (shape k) b d v (slots.maskNote l (m % 2 ^ x) (l .state)))) (sym n)
+  asking-is b d v (Request.Offline now) = asked-is b d v (λ l. offlineNote l (fullMask (k .pcpus)) now) (λ l. offline-is b d v now l)
+
+  pub enter-is : (b : Book) (c : Call) (ms : List Choice)
+      → page.enter k (booked k b) c (map named ms) ≡ entered k (slots.enter (shape k) b c ms)
+  unfolding page.enter page.offliningAll slots.enter
+  enter-is b (Call.Ask d v q) ms = asking-is b d v q
   enter-is b (Call.OfflineAll d now) ms = go (ltb d (k .domains))
     where
       go : (t : Bool)
@@ -128,36 +141,31 @@ module _ (k : page.Shape) (sized : Sized k) where
           ≡ entered k (cond t (offlineLines (shape k) b d now (k .vcpus)) (slots.unwritten 0 b))
       go true = offlining-all-is b d now (k .vcpus) (sized .vcpus)
       go false = refl
-  enter-is b (Call.SetAffinity d v m) ms =
-      let n : min (k .pcpus) 64 ≡ k .pcpus = omega (arith, sized .pcpus) in
-      let l = b (d * 8 + v) in
-      asked-is b d v (λ l. slots.maskNote l (m % 2 ^ k .pcpus)) (λ s. mask-notes k b d v s (m % 2 ^ k .pcpus))
-      ∙ ap (λ (x : ℕ). entered k (slots.identified (shape k) b d v (slots.maskNote l (m % 2 ^ x) (l .state)))) (sym n)
   enter-is b (Call.SetWeight d v w) ms = refl
   enter-is b (Call.SetWakeBoost on) ms = refl
   enter-is b (Call.Advance now) ms = moving-all-is b now ms
 
   -- ---- along a list
 
-  pub entry-is : (h : Host) (b : Book) (c : Call) → mine.entry k h (booked k b) c ≡ entered k (lists.entryOf (shape k) h b c)
+  pub entry-is : (h : Host) (b : Book) (c : Call) → mine.entry k h (booked k b) c ≡ entered k (lists.entryOf serviceMachine (shape k) h b c)
   entry-is h b c =
       ap (λ (r : steps.Step). page.enter k (booked k b) c (r .moves)) (sym (step-is h c)) ∙ enter-is b c ((host.step h c) .moves)
 
   pub book-from-is : (cs : List Call) (h : Host) (b : Book)
-      → mine.bookFrom k h (booked k b) cs ≡ booked k (lists.bookAfter (shape k) h b cs)
+      → mine.bookFrom k h (booked k b) cs ≡ booked k (lists.bookAfter serviceMachine (shape k) h b cs)
   unfolding mine.bookFrom lists.bookAfter
   book-from-is [] h b = refl
   book-from-is (c ∷ cs) h b =
       ap₂ (λ (r : steps.Step) (e : page.Entry). mine.bookFrom k (r .host) (e .book) cs) (sym (step-is h c)) (entry-is h b c)
-      ∙ book-from-is cs ((host.step h c) .host) ((lists.entryOf (shape k) h b c) .book)
+      ∙ book-from-is cs ((host.step h c) .host) ((lists.entryOf serviceMachine (shape k) h b c) .book)
 
   pub moves-from-is : (cs : List Call) (h : Host) (b : Book)
-      → mine.movesFrom k h (booked k b) cs ≡ map dated (lists.movesAfter (shape k) h b cs)
+      → mine.movesFrom k h (booked k b) cs ≡ map dated (lists.movesAfter serviceMachine (shape k) h b cs)
   unfolding mine.movesFrom lists.movesAfter
   moves-from-is [] h b = refl
   moves-from-is (c ∷ cs) h b =
-      let e = lists.entryOf (shape k) h b c in
+      let e = lists.entryOf serviceMachine (shape k) h b c in
       ap₂ (λ (r : steps.Step) (e : page.Entry). e .moves ++ mine.movesFrom k (r .host) (e .book) cs) (sym (step-is h c))
       (entry-is h b c)
       ∙ (ap (λ (ms : List page.Dated). map dated (e .moves) ++ ms) (moves-from-is cs ((host.step h c) .host) (e .book))
-      ∙ sym (map-append dated (e .moves) (lists.movesAfter (shape k) ((host.step h c) .host) (e .book) cs)))
+      ∙ sym (map-append dated (e .moves) (lists.movesAfter serviceMachine (shape k) ((host.step h c) .host) (e .book) cs)))

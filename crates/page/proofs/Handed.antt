@@ -3,7 +3,7 @@ use Prim.Native.Nat.{ℕ}
 use mathlib.Core.Path.{_≡_, sym, _∙_, ap}
 use lib.ListN.{length}
 use Rattle.system.specs.declared.System.{System}
-use Rattle.system.specs.declared.Stepped.{Stepped}
+use Rattle.system.specs.declared.Transitioned.{Transitioned}
 use Rattle.system.specs.Answers.{SystemOutcome, systemOutcome}
 use Rattle.policy.specs.declared.Scheduler.{Scheduler}
 use Rattle.policy.specs.declared.Adjusted.{Adjusted}
@@ -13,7 +13,7 @@ use Rattle.advance.specs.declared.Advanced as advance
 use Rattle.advance.specs.Advance as advances
 use Rattle.advance.specs.Outcomes.{AdvanceOutcome, nextOutcome, advanceOutcome, counted}
 use Rattle.host.specs.declared.Host.{Host}
-use Rattle.host.specs.declared.Call.{Call}
+use Rattle.calls.specs.declared.Call.{Call}
 use Rattle.host.specs.declared.Outcome as host
 use Rattle.host.specs.Step as steps
 use Rattle.host.specs.Outcomes.{HostOutcome, hostOutcome, stepCounted, builtHost}
@@ -22,10 +22,10 @@ use Rattle.page.specs.Steps.{Step, Hands, step, build}
 use Rattle.page.specs.Handed.{HandsSystem, HandsPolicy, HandsDecision, HandsAdvance}
 use Rattle.page.proofs.Calls.{tell}
 use Rattle.page.proofs.Policy.{tell-policy, built-policy-is}
-use Rattle.page.proofs.Advance.{recommended, advanced, next-told-is, advance-is}
+use Rattle.page.proofs.Advance.{recommended, next-told-is, advance-is}
 use Rattle.page.proofs.Steps.{answer-is, as-many, none-moved, step-is, build-is}
 
-pub hands-system : (r : Stepped) (x : SystemOutcome) (e : page.Told)
+pub hands-system : (r : Transitioned) (x : SystemOutcome) (e : page.Told)
     → systemOutcome r ≡ x → tell x ≡ e → HandsSystem r e
 hands-system r x e says is =
     let t = ap tell says ∙ is in

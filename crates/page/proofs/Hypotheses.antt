@@ -5,7 +5,8 @@ use mathlib.Core.List.{List}
 use mathlib.Core.Path.{sym}
 use mathlib.Core.Logic.{_↔_, Iff·trans}
 use Rattle.host.specs.declared.Host.{Host}
-use Rattle.host.specs.declared.Call.{Call}
+use Rattle.calls.specs.declared.Call.{Call}
+use Rattle.demand3.specs.ServiceMachine.{serviceMachine}
 use Rattle.demand3.specs.Lists as lists
 use Rattle.demand3.proofs.Laws.{fresh-kept}
 use Rattle.page.specs.Lists as page
@@ -13,14 +14,14 @@ use Rattle.page.specs.Lists.{Fresh, Sized}
 use Rattle.page.specs.DatedMoves.{Forward}
 use Rattle.page.proofs.CallLists.{along, forward, of-forward}
 use Rattle.page.proofs.Pools.{pool-list, of-pool-list}
-use Rattle.page.proofs.AtPoints.{fresh, of-this, host-is}
+use Rattle.page.proofs.AtPoints.{whole, fresh, host-is}
 
 module _ (f : Fresh) (sized : Sized (f .shape)) (cs : List Call) where
-  pub same-pools : (g : ℕ) → page.PoolList f g cs ↔ lists.PoolList g (fresh f sized) cs
+  pub same-pools : (g : ℕ) → page.PoolList f g cs ↔ lists.PoolList serviceMachine g (fresh f sized) cs
   same-pools g =
-      let K = of-this f sized fresh-kept in
+      let K = fresh-kept (whole f sized) in
       Iff·trans (along (λ (h : Host). page.PoolFrom (f .shape) g h cs) (sym (host-is f sized)))
       (pool-list (f .shape) (sized .pcpus) K, of-pool-list (f .shape) (sized .pcpus) K)
 
-  pub same-forward : (c : ℕ) → Forward (page.host f) 0 cs c ↔ lists.Forward (fresh f sized) 0 cs c
+  pub same-forward : (c : ℕ) → Forward (page.host f) 0 cs c ↔ lists.Forward serviceMachine (fresh f sized) 0 cs c
   same-forward c = Iff·trans (along (λ (h : Host). Forward h 0 cs c) (sym (host-is f sized))) (forward, of-forward)

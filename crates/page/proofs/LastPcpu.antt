@@ -9,10 +9,11 @@ use Rattle.system.specs.declared.RunState.{RunState}
 use Rattle.system.specs.declared.RunState.the-variants.{Offline, Runnable, Running, Blocked}
 use Rattle.system.specs.Slots.{slot-of}
 use Rattle.host.specs.declared.Host.{Host}
-use Rattle.host.specs.declared.Call.{Call}
+use Rattle.calls.specs.declared.Call.{Call}
 use Rattle.host.specs.Step as host
 use Rattle.demand3.specs.Dated.{Direction, onto, off, Dated}
 use Rattle.demand3.specs.Book.{Book, Entry}
+use Rattle.demand3.specs.ServiceMachine.{serviceMachine}
 use Rattle.demand3.specs.Lists as lists
 use Rattle.demand3.specs.LastPcpu as last
 use Rattle.demand3.specs.LastPcpu.{arrived, latestOnto, lastBy}
@@ -59,11 +60,11 @@ module _ (d v : ℕ) (small : v < 8) where
         (latest-onto-is l (e .moves))
 
     pub last-from-is : (cs : List Call) (h : Host) (b : Book) (l : ℕ)
-        → last.lastAfter (shape k) h b (d * 8 + v) l cs ≡ page.lastFrom k h (booked k b) d v l cs
+        → last.lastAfter serviceMachine (shape k) h b (d * 8 + v) l cs ≡ page.lastFrom k h (booked k b) d v l cs
     unfolding last.lastAfter page.lastFrom
     last-from-is [] h b l = refl
     last-from-is (c ∷ cs) h b l =
-        let e = lists.entryOf (shape k) h b c in
+        let e = lists.entryOf serviceMachine (shape k) h b c in
         last-from-is cs ((host.step h c) .host) (e .book) (lastBy e (d * 8 + v) l)
         ∙ (ap (λ (n : ℕ). page.lastFrom k ((host.step h c) .host) (booked k (e .book)) d v n cs) (by-is e l)
         ∙ ap₂ (λ (r : steps.Step) (x : book.Entry).

@@ -8,10 +8,10 @@ pub use Rattle.page.proofs.ReadLaws.{vcpu-of-is, state-of-is, is-runnin
 pub use Rattle.page.proofs.ReadLaws.{affinity-of-is, affinity-permits-is, busy-is, usage-is}
 pub use Rattle.page.proofs.Verdict.{first-violation-is, sound-is}
 -- the calls, and the policy's own
-pub use Rattle.page.proofs.Calls.{admit-is, run-is, preempt-is, block-is, wake-is, offline-is}
-pub use Rattle.page.proofs.Calls.{set-affinity-is, offline-all-is}
+pub use Rattle.page.proofs.Calls.{request-is, offline-all-is}
 pub use Rattle.page.proofs.InPlace.{pcpu-read-is, effect-does}
 pub use Rattle.page.proofs.Standing.{weight-is}
+pub use Rattle.page.proofs.Accounting.{accounted-is}
 pub use Rattle.page.proofs.Policy.{set-weight-is, set-wake-boost-is, built-system-is}
 -- lines, records and scripts
 pub use Rattle.page.proofs.NumberLaws.{number-in-is}

@@ -9,7 +9,7 @@ use borrow.Author.Tests.{ne-eqb}
 use Rattle.system.specs.declared.RunState.the-variants.{Offline, Running, Blocked}
 use Rattle.system.specs.declared.VirtualCpu.{VirtualCpu}
 use Rattle.host.specs.declared.Host.{Host}
-use Rattle.host.specs.declared.Call.{Call}
+use Rattle.calls.specs.declared.Call.{Call}
 use Rattle.page.specs.Host.{Found, nobody, one, vcpu}
 use Rattle.page.specs.Steps.{step}
 use Rattle.page.specs.Book.{Line, Book, Dated, Entry, onto, off, holder, enter}

@@ -1,9 +1,9 @@
 -- Placement, `next` and the limit are the page's, of any system and any policy. Assumes nothing.
-use Prim.Native.Nat.{ℕ, zero, suc, _+_, _-_, _*_, _/_, _%_, _^_, _≤_, min}
-use mathlib.Core.Bool.{Bool, true, false, cond, not, _&&_}
+use Prim.Native.Nat.{ℕ, zero, suc, _-_, _/_, _%_, _≤_}
+use mathlib.Core.Bool.{Bool, true, false, cond, _&&_}
 use mathlib.Core.Path.{_≡_, refl, sym, _∙_, ap, ap₂}
 use native.Mathlib.Omega.{arith}
-use lib.Dec.{ltb, leb}
+use lib.Dec.{ltb}
 use Rattle.masks.specs.Masks.{permits, first}
 use Rattle.system.specs.declared.RunState.{RunState}
 use Rattle.system.specs.declared.RunState.the-variants.{Offline, Runnable, Running, Blocked}
@@ -16,9 +16,8 @@ use Rattle.system.specs.Slots.{present}
 use Rattle.system.specs.States.{onto, isRunnable}
 use Rattle.system.specs.Reads as reads
 use Rattle.system.specs.Reads.{vcpuAt, occupantAt}
-use Rattle.scan.specs.Scan.{Pick, nobody, at, scan, some, never}
+use Rattle.scans.specs.Scan.{Pick, nobody, at, scan, some, never}
 use Rattle.policy.specs.declared.Scheduler.{Scheduler}
-use Rattle.policy.specs.Standing.{deserves}
 use Rattle.moves.specs.Decide as moves
 use Rattle.moves.specs.Decide.{Standings, orRun, orPreempt, decide, chosen, victim, firstIdlePcpuFor}
 use Rattle.rules.specs.Choices.{standings, choice, isExpired}
@@ -27,9 +26,9 @@ use Rattle.advance.specs.declared.Decision.{Decision}
 use Rattle.advance.specs.ServiceRule.{ruleOf, beats-deserves}
 use Rattle.advance.specs.Advance.{named}
 use Rattle.page.specs.Page as page
-use Rattle.page.specs.Page.{vcpu, holder, fits, lowest, place, placeable, waits, runnable, deserving, beaten, losesIn, loses, best, decided, next, somebody, Found, one}
+use Rattle.page.specs.Page.{vcpu, holder, fits, lowest, place, placeable, waits, runnable, deserving, beaten, losesIn, loses, best, decided, next, somebody}
 use Rattle.page.proofs.Loops.{who, best-scan}
-use Rattle.page.proofs.Standing.{vcpu-is, holder-is, deserves-is}
+use Rattle.page.proofs.Standing.{vcpu-is, deserves-is}
 
 pub limit-is : (s : System) → settle.limit s ≡ page.limit s
 limit-is s = refl

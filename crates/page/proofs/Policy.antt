@@ -3,8 +3,6 @@ use Prim.Native.Nat.{ℕ}
 use mathlib.Core.Bool.{Bool, true, false, cond, _&&_}
 use lib.Dec.{leb}
 use mathlib.Core.Path.{_≡_, refl}
-use Rattle.system.specs.declared.System.{System}
-use Rattle.system.specs.Answers.{SystemOutcome}
 use Rattle.system.specs.Shape as shape
 use Rattle.policy.specs.declared.Scheduler.{Scheduler}
 use Rattle.policy.specs.Accounts as accounts

@@ -8,7 +8,7 @@ use mathlib.Core.Path.{_≡_, subst₂}
 use native.Mathlib.Omega.{arith}
 use Rattle.system.specs.declared.RunState.the-variants.{Runnable}
 use Rattle.host.specs.declared.Host.{Host}
-use Rattle.host.specs.declared.Call.{Call}
+use Rattle.calls.specs.declared.Call.{Call}
 use Rattle.page.specs.Policy.{account, number}
 use Rattle.page.specs.Standing.{inFlight, service}
 use Rattle.page.specs.Accounting.{pooled}

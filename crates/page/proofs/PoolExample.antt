@@ -5,7 +5,8 @@ use mathlib.Core.Path.{_≡_, refl}
 use native.Mathlib.Omega.{arith}
 use Rattle.rows.specs.Rows.{Row, row, rows, AllDue}
 use Rattle.host.specs.declared.Host.{Host}
-use Rattle.host.specs.declared.Call.{Call}
+use Rattle.calls.specs.declared.Call.{Call}
+use Rattle.calls.specs.Asked as call
 use Rattle.page.specs.Book as book
 use Rattle.page.specs.Steps.{step}
 use Rattle.page.specs.Lists as lists
@@ -20,17 +21,17 @@ two = record { shape = record { domains = 1; vcpus = 2; pcpus = 1 }; domains = 1
 
 -- advances at 0 and 9, when the one that runs has not yet run its slice; then a run at a clock that runs back, which is refused
 abbrev before : List Call
-before = Call.Admit 0 0 ∷ Call.Admit 0 1 ∷ Call.Advance 0 ∷ Call.Advance 9 ∷ Call.Run 0 1 0 3 ∷ []
+before = call.admit 0 0 ∷ call.admit 0 1 ∷ Call.Advance 0 ∷ Call.Advance 9 ∷ call.run 0 1 0 3 ∷ []
 
 -- the one that waits departs
 abbrev rest : List Call
-rest = Call.Block 0 1 12 ∷ []
+rest = call.block 0 1 12 ∷ []
 
 -- the host at that run, which is told 5
 abbrev then : Host
-then = hostAfter two (Call.Admit 0 0 ∷ Call.Admit 0 1 ∷ Call.Advance 0 ∷ Call.Advance 9 ∷ [])
+then = hostAfter two (call.admit 0 0 ∷ call.admit 0 1 ∷ Call.Advance 0 ∷ Call.Advance 9 ∷ [])
 
-busy : (step then (Call.Run 0 1 0 3)) .number ≡ 0 → ⊥
+busy : (step then (call.run 0 1 0 3)) .number ≡ 0 → ⊥
 unfolding computing
 busy e = omega (arith, e)
 
@@ -43,14 +44,14 @@ a-pool =
 
 typed : AllTyped (before ++ rest)
 typed = (
-  (omega arith, omega arith),
+  (omega arith, omega arith, _),
   (
-    (omega arith, omega arith),
+    (omega arith, omega arith, _),
     (
       omega arith,
       (
         omega arith,
-        ((omega arith, omega arith, omega arith, omega arith), ((omega arith, omega arith, omega arith), _)),
+        ((omega arith, omega arith, (omega arith, omega arith)), ((omega arith, omega arith, omega arith), _)),
       ),
     ),
   ),

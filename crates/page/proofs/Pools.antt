@@ -5,10 +5,11 @@ use mathlib.Core.Path.{_≡_}
 use mathlib.Core.Logic.{_↔_}
 use native.Mathlib.Omega.{arith}
 use Rattle.host.specs.declared.Host.{Host}
-use Rattle.host.specs.declared.Call.{Call}
+use Rattle.calls.specs.declared.Call.{Call}
 use Rattle.demand3.specs.Book.{Book}
+use Rattle.demand3.specs.ServiceMachine.{serviceMachine}
 use Rattle.demand3.specs.Lists as lists
-use Rattle.demand3.proofs.Laws.{Kept, step-goes}
+use Rattle.demand3.proofs.Laws.{Kept, step-goes, service-lawful}
 use Rattle.page.specs.Book.{Shape}
 use Rattle.page.specs.Lists as page
 use Rattle.page.proofs.ByIds.{shape}
@@ -29,18 +30,18 @@ departs = (there, back)
 
 -- ---- after the first advance
 
-pool-rest : {g : ℕ} {h : Host} {t : ℕ} {cs : List Call} → page.PoolRest g h t cs → lists.PoolRest g h t cs
+pool-rest : {g : ℕ} {h : Host} {t : ℕ} {cs : List Call} → page.PoolRest g h t cs → lists.PoolRest serviceMachine g h t cs
 pool-rest page.PoolRest.done = lists.PoolRest.done
 pool-rest {g} (page.PoolRest.advances {h} {t} {n} {cs} a b r) =
-    lists.PoolRest.advances a b (left-is (λ i. lists.PoolRest g i n cs) h (Call.Advance n) .0 (pool-rest r))
+    lists.PoolRest.advances a b (left-is (λ i. lists.PoolRest serviceMachine g i n cs) h (Call.Advance n) .0 (pool-rest r))
 pool-rest {g} (page.PoolRest.departs {h} {t} {c} {cs} x r) =
-    lists.PoolRest.departs (departs .0 x) (left-is (λ i. lists.PoolRest g i t cs) h c .0 (pool-rest r))
+    lists.PoolRest.departs (departs .0 x) (left-is (λ i. lists.PoolRest serviceMachine g i t cs) h c .0 (pool-rest r))
 pool-rest {g} (page.PoolRest.boosts {h} {t} {on} {cs} r) =
-    lists.PoolRest.boosts (left-is (λ i. lists.PoolRest g i t cs) h (Call.SetWakeBoost on) .0 (pool-rest r))
+    lists.PoolRest.boosts (left-is (λ i. lists.PoolRest serviceMachine g i t cs) h (Call.SetWakeBoost on) .0 (pool-rest r))
 pool-rest {g} (page.PoolRest.refused {h} {t} {c} {cs} x r) =
-    lists.PoolRest.refused (refused-is h c .0 x) (left-is (λ i. lists.PoolRest g i t cs) h c .0 (pool-rest r))
+    lists.PoolRest.refused (refused-is h c .0 x) (left-is (λ i. lists.PoolRest serviceMachine g i t cs) h c .0 (pool-rest r))
 
-of-pool-rest : {g : ℕ} {h : Host} {t : ℕ} {cs : List Call} → lists.PoolRest g h t cs → page.PoolRest g h t cs
+of-pool-rest : {g : ℕ} {h : Host} {t : ℕ} {cs : List Call} → lists.PoolRest serviceMachine g h t cs → page.PoolRest g h t cs
 of-pool-rest lists.PoolRest.done = page.PoolRest.done
 of-pool-rest {g} (lists.PoolRest.advances {h} {t} {n} {cs} a b r) =
     page.PoolRest.advances a b (left-is (λ i. page.PoolRest g i n cs) h (Call.Advance n) .1 (of-pool-rest r))
@@ -81,28 +82,28 @@ module _ (k : Shape) (few : k .pcpus ≤ 64) where
       back (lists.Prepares.boost on) = page.Prepares.boost on
 
   -- a call keeps the host in step with its book, so that it has as many pCPUs
-  pub pool-list : {g : ℕ} {h : Host} {b : Book} {cs : List Call} → Kept (shape k) b h
-      → page.PoolFrom k g h cs → lists.PoolList g h cs
+  pub pool-list : {g : ℕ} {h : Host} {b : Book} {cs : List Call} → Kept serviceMachine (shape k) b h
+      → page.PoolFrom k g h cs → lists.PoolList serviceMachine g h cs
   pool-list K page.PoolFrom.done = lists.PoolList.done
   pool-list {g} K (page.PoolFrom.prepares {h} {c} {cs} x r) =
       lists.PoolList.prepares (prepares _ (K .in-step .shaped .pcpus) .0 x)
-      (left-is (λ i. lists.PoolList g i cs) h c .0
-      (pool-list (left-is (Kept (shape k) _) h c .1 (step-goes c K .kept)) r))
+      (left-is (λ i. lists.PoolList serviceMachine g i cs) h c .0
+      (pool-list (left-is (Kept serviceMachine (shape k) _) h c .1 (step-goes service-lawful c K .kept)) r))
   pool-list {g} K (page.PoolFrom.refused {h} {c} {cs} x r) =
       lists.PoolList.refused (refused-is h c .0 x)
-      (left-is (λ i. lists.PoolList g i cs) h c .0
-      (pool-list (left-is (Kept (shape k) _) h c .1 (step-goes c K .kept)) r))
+      (left-is (λ i. lists.PoolList serviceMachine g i cs) h c .0
+      (pool-list (left-is (Kept serviceMachine (shape k) _) h c .1 (step-goes service-lawful c K .kept)) r))
   pool-list {g} K (page.PoolFrom.starts {h} {n} {cs} r) =
-      lists.PoolList.starts (left-is (λ i. lists.PoolRest g i n cs) h (Call.Advance n) .0 (pool-rest r))
+      lists.PoolList.starts (left-is (λ i. lists.PoolRest serviceMachine g i n cs) h (Call.Advance n) .0 (pool-rest r))
 
-  pub of-pool-list : {g : ℕ} {h : Host} {b : Book} {cs : List Call} → Kept (shape k) b h
-      → lists.PoolList g h cs → page.PoolFrom k g h cs
+  pub of-pool-list : {g : ℕ} {h : Host} {b : Book} {cs : List Call} → Kept serviceMachine (shape k) b h
+      → lists.PoolList serviceMachine g h cs → page.PoolFrom k g h cs
   of-pool-list K lists.PoolList.done = page.PoolFrom.done
   of-pool-list {g} K (lists.PoolList.prepares {h} {c} {cs} x r) =
       page.PoolFrom.prepares (prepares _ (K .in-step .shaped .pcpus) .1 x)
-      (left-is (λ i. page.PoolFrom k g i cs) h c .1 (of-pool-list (step-goes c K .kept) r))
+      (left-is (λ i. page.PoolFrom k g i cs) h c .1 (of-pool-list (step-goes service-lawful c K .kept) r))
   of-pool-list {g} K (lists.PoolList.refused {h} {c} {cs} x r) =
       page.PoolFrom.refused (refused-is h c .1 x)
-      (left-is (λ i. page.PoolFrom k g i cs) h c .1 (of-pool-list (step-goes c K .kept) r))
+      (left-is (λ i. page.PoolFrom k g i cs) h c .1 (of-pool-list (step-goes service-lawful c K .kept) r))
   of-pool-list {g} K (lists.PoolList.starts {h} {n} {cs} r) =
       page.PoolFrom.starts (left-is (λ i. page.PoolRest g i n cs) h (Call.Advance n) .1 (of-pool-rest r))

@@ -22,7 +22,7 @@ use Rattle.policy.specs.Accounts as accounts
 use Rattle.script.specs.declared.Script.{Script}
 use Rattle.script.specs.declared.Taken.{Taken}
 use Rattle.text.specs.Lines as lines
-use Rattle.script.specs.HostText as hosts
+use Rattle.host_text.specs.HostText as hosts
 use Rattle.script.specs.Script as script
 use Rattle.script.specs.Script.{carried, builtAfter, Replayed}
 use Rattle.script.specs.Example.{example, example-records, example-text}
@@ -105,11 +105,11 @@ after-is c bs (suc n) =
 entry-is : (shown : Bool) (c : Script) (bs : List ℕ) → script.entry shown c bs ≡ page.entry shown c bs
 unfolding script.entry script.scriptNext
 entry-is shown c bs =
-    ap (λ (r : Played). lines.answerLine (page.counted c) (r .number) (r .count) ++ cond (shown && r .built) (hosts.hostText (r .host)) [])
+    ap (λ (r : Played). lines.answerLine (page.counted c) (r .number) (r .count) ++ cond (shown && r .built) (hosts.hostText (r .host .system) (r .host .scheduler)) [])
     (obey-is c bs)
     ∙ (let r = page.obey c bs in
     ap₂ (λ (l m : List ℕ). l ++ cond (shown && r .built) m []) (answer-line-is (page.counted c) (r .number) (r .count))
-    (host-text-is (r .host)))
+    (host-text-is (r .host .system) (r .host .scheduler)))
 
 -- `replay` is false, `trace` true
 pub text-is : (shown : Bool) (c : Script) (bs : List ℕ) (n : ℕ) → script.text shown c bs n ≡ page.text shown c bs n

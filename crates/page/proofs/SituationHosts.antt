@@ -8,7 +8,8 @@ use Rattle.policy.specs.declared.Account.{Account}
 use Rattle.advance.specs.declared.Decision.{Decision}
 use Rattle.advance.specs.declared.Decision.the-variants as decision
 use Rattle.host.specs.declared.Host.{Host}
-use Rattle.host.specs.declared.Call.{Call}
+use Rattle.calls.specs.declared.Call.{Call}
+use Rattle.calls.specs.Asked as call
 use Rattle.page.specs.Page as page
 use Rattle.page.specs.Page.{times, lowest, vcpu, account, put, four, weight, service, deserving, next, accounted}
 use Rattle.page.specs.Steps.{step, after, build}
@@ -73,30 +74,30 @@ lift h now =
 
 -- 0/0 runs on pCPU 0, 0/1 is Offline
 abbrev pub one-runs : List Call
-one-runs = Call.Admit 0 0 ∷ Call.Run 0 0 0 0 ∷ []
+one-runs = call.admit 0 0 ∷ call.run 0 0 0 0 ∷ []
 
 -- 0/0 runs on pCPU 0, 0/1 is Runnable and admits pCPU 1 alone
 abbrev pub off-mask : List Call
-off-mask = Call.Admit 0 0 ∷ Call.Run 0 0 0 0 ∷ Call.Admit 0 1 ∷ Call.SetAffinity 0 1 2 ∷ []
+off-mask = call.admit 0 0 ∷ call.run 0 0 0 0 ∷ call.admit 0 1 ∷ call.setAffinity 0 1 2 ∷ []
 
 -- 2 pCPUs, of which 0/0 admits pCPU 0 alone
 abbrev pub narrowed : Host
-narrowed = host 1 1 2 (Call.SetAffinity 0 0 1 ∷ [])
+narrowed = host 1 1 2 (call.setAffinity 0 0 1 ∷ [])
 
 -- 0/0 ran for 7 ticks and is dispatched at 100
 abbrev pub dispatched-at-100 : Host
-dispatched-at-100 = host 1 1 1 (Call.Admit 0 0 ∷ Call.Run 0 0 0 0 ∷ Call.Preempt 0 0 7 ∷ Call.Run 0 0 0 100 ∷ [])
+dispatched-at-100 = host 1 1 1 (call.admit 0 0 ∷ call.run 0 0 0 0 ∷ call.preempt 0 0 7 ∷ call.run 0 0 0 100 ∷ [])
 
 -- 0/0 ran for 2^64 − 4 ticks and is dispatched at 0
 abbrev pub near-the-top : Host
-near-the-top = host 1 1 1 (Call.Admit 0 0 ∷ Call.Run 0 0 0 0 ∷ Call.Preempt 0 0 (2 ^ 64 - 4) ∷ Call.Run 0 0 0 0 ∷ [])
+near-the-top = host 1 1 1 (call.admit 0 0 ∷ call.run 0 0 0 0 ∷ call.preempt 0 0 (2 ^ 64 - 4) ∷ call.run 0 0 0 0 ∷ [])
 
 -- weights 2 and 1; 0/0 ran for 10 ticks, 0/1 for 5
 abbrev pub even : Host
 even =
     host 1 2 1
-    (Call.SetWeight 0 0 2 ∷ Call.SetWeight 0 1 1 ∷ Call.Admit 0 0 ∷ Call.Admit 0 1 ∷ Call.Run 0 0 0 0 ∷ Call.Preempt 0 0 10
-    ∷ Call.Run 0 1 0 10 ∷ Call.Preempt 0 1 15 ∷ [])
+    (Call.SetWeight 0 0 2 ∷ Call.SetWeight 0 1 1 ∷ call.admit 0 0 ∷ call.admit 0 1 ∷ call.run 0 0 0 0 ∷ call.preempt 0 0 10
+    ∷ call.run 0 1 0 10 ∷ call.preempt 0 1 15 ∷ [])
 
 -- a host with other accounts of 0/0 and 0/1
 abbrev pub with-accounts : Host → Account → Account → Host
@@ -112,25 +113,25 @@ huge =
 abbrev pub waker : Host
 waker =
     host 1 2 2
-    (Call.SetWeight 0 0 3 ∷ Call.SetWeight 0 1 2 ∷ Call.Admit 0 1 ∷ Call.Run 0 1 1 0 ∷ Call.Block 0 1 1
-    ∷ Call.Admit 0 0 ∷ Call.Advance 0 ∷ Call.Wake 0 1 ∷ [])
+    (Call.SetWeight 0 0 3 ∷ Call.SetWeight 0 1 2 ∷ call.admit 0 1 ∷ call.run 0 1 1 0 ∷ call.block 0 1 1
+    ∷ call.admit 0 0 ∷ Call.Advance 0 ∷ call.wake 0 1 ∷ [])
 
 -- the same at weights 1, with 10 ticks run by 0/1, whose offset is 100
 abbrev pub waker-again : Host
 waker-again =
     let h =
     host 1 2 2
-    (Call.SetWeight 0 0 1 ∷ Call.SetWeight 0 1 1 ∷ Call.Admit 0 1 ∷ Call.Run 0 1 1 0 ∷ Call.Block 0 1 10
-    ∷ Call.Admit 0 0 ∷ Call.Advance 0 ∷ Call.Wake 0 1 ∷ []) in
+    (Call.SetWeight 0 0 1 ∷ Call.SetWeight 0 1 1 ∷ call.admit 0 1 ∷ call.run 0 1 1 0 ∷ call.block 0 1 10
+    ∷ call.admit 0 0 ∷ Call.Advance 0 ∷ call.wake 0 1 ∷ []) in
     with-accounts h (account (h .scheduler) 0 0) (record { weight = 1; offset = four 100; «was_schedulable» = false })
 
 -- two on one pCPU, 0/0 dispatched at 100
 abbrev pub slice : Host
-slice = host 1 2 1 (Call.Admit 0 0 ∷ Call.Admit 0 1 ∷ Call.Advance 100 ∷ [])
+slice = host 1 2 1 (call.admit 0 0 ∷ call.admit 0 1 ∷ Call.Advance 100 ∷ [])
 
 -- 0/2 holds pCPU 1, which is all that 0/0 admits; 0/1 ran for 5 ticks and admits every pCPU
 abbrev pub pinned : Host
 pinned =
     host 1 3 2
-    (Call.Admit 0 0 ∷ Call.SetAffinity 0 0 2 ∷ Call.Admit 0 1 ∷ Call.Run 0 1 0 0 ∷ Call.Preempt 0 1 5
-    ∷ Call.Admit 0 2 ∷ Call.Run 0 2 1 5 ∷ [])
+    (call.admit 0 0 ∷ call.setAffinity 0 0 2 ∷ call.admit 0 1 ∷ call.run 0 1 0 0 ∷ call.preempt 0 1 5
+    ∷ call.admit 0 2 ∷ call.run 0 2 1 5 ∷ [])

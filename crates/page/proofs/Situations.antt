@@ -6,7 +6,8 @@ use Rattle.rows.specs.Rows.{Row, row, rows, test, AllDue}
 use Rattle.system.specs.declared.Occupant.{Occupant}
 use Rattle.system.specs.declared.Occupant.the-variants.{Idle, Vcpu}
 use Rattle.host.specs.declared.Host.{Host}
-use Rattle.host.specs.declared.Call.{Call}
+use Rattle.calls.specs.declared.Call.{Call}
+use Rattle.calls.specs.Asked as call
 use Rattle.page.specs.Page.{holder, admits}
 use Rattle.page.specs.Steps.{after, build}
 use Rattle.page.proofs.SituationHosts.{host, told, left, runtime, mask, decided, count, against}
@@ -18,22 +19,22 @@ use Rattle.page.proofs.SituationHosts.{near-the-top, even, huge, waker,
 abbrev pub table : List Row
 table =
     -- 2 domains, 2 pCPUs: run of domain 9 on pCPU 2
-    row (told (host 2 1 2 []) (Call.Run 9 0 2 0)) 3
+    row (told (host 2 1 2 []) (call.run 9 0 2 0)) 3
     -- run of an Offline vCPU on a busy pCPU
-    ∷ row (told (host 1 2 1 one-runs) (Call.Run 0 1 0 0)) 10
+    ∷ row (told (host 1 2 1 one-runs) (call.run 0 1 0 0)) 10
     -- off-mask and busy together
-    ∷ row (told (host 1 2 2 off-mask) (Call.Run 0 1 0 0)) 6
+    ∷ row (told (host 1 2 2 off-mask) (call.run 0 1 0 0)) 6
     -- the empty mask while Running, and while Runnable
-    ∷ row (told (host 1 1 1 one-runs) (Call.SetAffinity 0 0 0)) 6
-    ∷ row (told (host 1 1 1 (Call.Admit 0 0 ∷ [])) (Call.SetAffinity 0 0 0)) 0
+    ∷ row (told (host 1 1 1 one-runs) (call.setAffinity 0 0 0)) 6
+    ∷ row (told (host 1 1 1 (call.admit 0 0 ∷ [])) (call.setAffinity 0 0 0)) 0
     -- 2 pCPUs: the mask 2^64 − 1 is stored as 3, where 1 stood
-    ∷ rows (mask narrowed 0 0 ∷ mask (left narrowed (Call.SetAffinity 0 0 18446744073709551615)) 0 0 ∷ []) (1 ∷ 3 ∷ [])
+    ∷ rows (mask narrowed 0 0 ∷ mask (left narrowed (call.setAffinity 0 0 18446744073709551615)) 0 0 ∷ []) (1 ∷ 3 ∷ [])
     -- pCPU 64 under the mask 2^64 − 1 is not admitted; 63 is
     ∷ rows (test (admits 18446744073709551615 63) ∷ test (admits 18446744073709551615 64) ∷ []) (1 ∷ 0 ∷ [])
     -- dispatched at 100, preempted at 90: the run time is unchanged
-    ∷ rows (runtime dispatched-at-100 0 0 ∷ runtime (left dispatched-at-100 (Call.Preempt 0 0 90)) 0 0 ∷ []) (7 ∷ 7 ∷ [])
+    ∷ rows (runtime dispatched-at-100 0 0 ∷ runtime (left dispatched-at-100 (call.preempt 0 0 90)) 0 0 ∷ []) (7 ∷ 7 ∷ [])
     -- run time 2^64 − 4, interval 10
-    ∷ rows (runtime near-the-top 0 0 ∷ runtime (left near-the-top (Call.Preempt 0 0 10)) 0 0 ∷ [])
+    ∷ rows (runtime near-the-top 0 0 ∷ runtime (left near-the-top (call.preempt 0 0 10)) 0 0 ∷ [])
     (18446744073709551612 ∷ 18446744073709551615 ∷ [])
     -- 10 over weight 2 and 5 over weight 1: neither is more deserving
     ∷ rows (standings even 15) (10 ∷ 2 ∷ 5 ∷ 1 ∷ [])
@@ -67,7 +68,7 @@ holderOf (Vcpu d v) = v + 1
 
 -- two on one pCPU, weights 2 and 1
 abbrev two-one : Host
-two-one = host 1 2 1 (Call.SetWeight 0 0 2 ∷ Call.SetWeight 0 1 1 ∷ Call.Admit 0 0 ∷ Call.Admit 0 1 ∷ [])
+two-one = host 1 2 1 (Call.SetWeight 0 0 2 ∷ Call.SetWeight 0 1 1 ∷ call.admit 0 0 ∷ call.admit 0 1 ∷ [])
 
 -- who holds it after these advances
 abbrev held : List Call → ℕ
@@ -75,7 +76,7 @@ held advances = holderOf (holder ((after two-one advances) .system) 0)
 
 -- the script's example: after its build, both are admitted, and these calls follow
 abbrev example : List Call → Host
-example cs = after (host 1 2 1 (Call.Admit 0 0 ∷ Call.Admit 0 1 ∷ [])) cs
+example cs = after (host 1 2 1 (call.admit 0 0 ∷ call.admit 0 1 ∷ [])) cs
 
 abbrev pub others : List Row
 others =
@@ -89,12 +90,12 @@ others =
     ∷ rows ((build 16 8 64 10) .number ∷ (build 17 8 64 10) .number ∷ (build 16 9 64 10) .number ∷ (build 16 8 65 10) .number ∷ [])
     (0 ∷ 7 ∷ 7 ∷ 7 ∷ [])
     -- a host of 0 pCPUs decides Idle
-    ∷ rows (decided (host 1 2 0 (Call.Admit 0 0 ∷ Call.Admit 0 1 ∷ [])) 10) (0 ∷ [])
+    ∷ rows (decided (host 1 2 0 (call.admit 0 0 ∷ call.admit 0 1 ∷ [])) 10) (0 ∷ [])
     -- the script's example: moves at 100, 105 and 110; then a run onto the busy pCPU is told 5
     ∷ row (count (example []) (Call.Advance 100)) 1
     ∷ row (count (example (Call.Advance 100 ∷ [])) (Call.Advance 105)) 0
     ∷ row (count (example (Call.Advance 100 ∷ Call.Advance 105 ∷ [])) (Call.Advance 110)) 2
-    ∷ row (told (example (Call.Advance 100 ∷ Call.Advance 105 ∷ Call.Advance 110 ∷ [])) (Call.Run 0 0 0 110)) 5
+    ∷ row (told (example (Call.Advance 100 ∷ Call.Advance 105 ∷ Call.Advance 110 ∷ [])) (call.run 0 0 0 110)) 5
     ∷ []
 
 pub others-due : AllDue others

@@ -1,6 +1,5 @@
 -- Counts, look-ups, service and order are the page's, of any system and any policy. Assumes nothing.
-use Prim.Native.Nat.{ℕ, _+_, _-_, _*_, _/_, _%_, _^_, min}
-use mathlib.Core.Bool.{Bool}
+use Prim.Native.Nat.{ℕ, _+_, _-_, _*_, _/_, _%_, _^_}
 use mathlib.Core.List.{List, [], _∷_}
 use mathlib.Core.Path.{_≡_, refl, sym, _∙_, ap, ap₂}
 use native.Mathlib.Omega.{arith}
@@ -8,8 +7,6 @@ use Rattle.service.specs.Service.{value, held, limbs, moreDeserving}
 use Rattle.system.specs.declared.RunState.{RunState}
 use Rattle.system.specs.declared.RunState.the-variants.{Offline, Runnable, Running, Blocked}
 use Rattle.system.specs.declared.VirtualCpu.{VirtualCpu}
-use Rattle.system.specs.declared.Occupant.{Occupant}
-use Rattle.system.specs.declared.Occupant.the-variants.{Idle, Vcpu}
 use Rattle.system.specs.declared.System.{System}
 use Rattle.system.specs.Slots as slots
 use Rattle.system.specs.Slots.{slot-of}
@@ -17,11 +14,10 @@ use Rattle.system.specs.Records as records
 use Rattle.system.specs.States as states
 use Rattle.system.specs.Reads as reads
 use Rattle.system.specs.Reads.{vcpuAt, occupantAt}
-use Rattle.policy.specs.declared.Account.{Account}
 use Rattle.policy.specs.declared.Scheduler.{Scheduler}
 use Rattle.policy.specs.Accounts as accounts
 use Rattle.policy.specs.Accounts.{accountAt, accountOf}
-use Rattle.policy.specs.Standing.{serviceOf, serviceBy, serviceAt, weightAt, deserves}
+use Rattle.policy.specs.Standing.{serviceBy, serviceAt, deserves}
 use Rattle.page.specs.Page.{vcpu, holder, account, weight, number, four, hold, inFlight, service, deserving}
 use Rattle.page.specs.Page as page
 

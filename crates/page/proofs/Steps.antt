@@ -2,16 +2,15 @@
 use Prim.Native.Nat.{ℕ}
 use mathlib.Core.Bool.{Bool, true, false, cond, _&&_}
 use mathlib.Core.List.{List, [], _∷_, map}
-use mathlib.Core.Path.{_≡_, refl, sym, _∙_, ap, ap₂}
+use mathlib.Core.Path.{_≡_, refl, _∙_, ap}
 use lib.Dec.{leb}
 use lib.ListN.{length}
 use Prim.Native.Nat.{suc}
 use Rattle.system.specs.declared.Answer.{Answer}
 use Rattle.system.specs.Answers.{told}
 use Rattle.moves.specs.declared.Choice.{Choice}
-use Rattle.policy.specs.declared.Scheduler.{Scheduler}
 use Rattle.host.specs.declared.Host.{Host}
-use Rattle.host.specs.declared.Call.{Call}
+use Rattle.calls.specs.declared.Call.{Call}
 use Rattle.host.specs.Step as host
 use Rattle.host.specs.Outcomes as outcomes
 use Rattle.system.specs.Shape as shape
@@ -20,8 +19,8 @@ use Rattle.advance.specs.Advance.{named}
 use Rattle.page.specs.Page as calls
 use Rattle.page.specs.Steps as page
 use Rattle.page.specs.Steps.{numberOf, bySystem, byPolicy, byAdvance}
-use Rattle.page.proofs.Calls.{admit-is, run-is, preempt-is, block-is, wake-is, offline-is, set-affinity-is, offline-all-is}
-use Rattle.page.proofs.Policy.{set-weight-is, set-wake-boost-is, new-system-is, new-policy-is}
+use Rattle.page.proofs.Calls.{request-is, offline-all-is}
+use Rattle.page.proofs.Policy.{set-weight-is, set-wake-boost-is}
 use Rattle.page.proofs.Advance.{advance-is}
 
 -- the moves by ids
@@ -30,14 +29,8 @@ by-ids r = record { number = r .number; host = r .host; moves = map named (r .mo
 
 pub step-is : (h : Host) (c : Call) → by-ids (host.step h c) ≡ page.step h c
 unfolding host.step page.step
-step-is h (Call.Admit d v) = ap (bySystem h) (admit-is (h .system) d v)
-step-is h (Call.Run d v p now) = ap (bySystem h) (run-is (h .system) d v p now)
-step-is h (Call.Preempt d v now) = ap (bySystem h) (preempt-is (h .system) d v now)
-step-is h (Call.Block d v now) = ap (bySystem h) (block-is (h .system) d v now)
-step-is h (Call.Wake d v) = ap (bySystem h) (wake-is (h .system) d v)
-step-is h (Call.Offline d v now) = ap (bySystem h) (offline-is (h .system) d v now)
+step-is h (Call.Ask d v q) = ap (bySystem h) (request-is (h .system) d v q)
 step-is h (Call.OfflineAll d now) = ap (bySystem h) (offline-all-is (h .system) d now)
-step-is h (Call.SetAffinity d v m) = ap (bySystem h) (set-affinity-is (h .system) d v m)
 step-is h (Call.SetWeight d v w) = ap (byPolicy h) (set-weight-is (h .scheduler) d v w)
 step-is h (Call.SetWakeBoost on) = ap (byPolicy h) (set-wake-boost-is (h .scheduler) on)
 step-is h (Call.Advance now) = ap byAdvance (advance-is (h .system) (h .scheduler) now)

@@ -14,8 +14,7 @@ use Rattle.system.specs.declared.System.{System}
 use Rattle.system.specs.Reads.{vcpuAt}
 use Rattle.policy.specs.declared.Scheduler.{Scheduler}
 use Rattle.policy.specs.Accounts.{weightOf}
-use Rattle.host.specs.declared.Host.{Host}
-use Rattle.script.specs.HostText as script
+use Rattle.host_text.specs.HostText as host-text
 use Rattle.text.specs.Lines as lines
 use Rattle.page.specs.Page.{times, domains, vcpus, pcpus, vcpu, holder, weight}
 use Rattle.page.specs.Numbers.{parts}
@@ -27,13 +26,13 @@ use Rattle.page.proofs.Standing.{vcpu-is, holder-is, weight-is}
 use Rattle.page.proofs.LineLaws.{numbers-line-is, pcpu-line-is}
 
 numbers-are : (d v : ℕ) (x : VirtualCpu) (w : ℕ)
-    → script.vcpuNumbers d v x w
+    → host-text.vcpuNumbers d v x w
     ≡ d ∷ v ∷ page.stateNumbers (x .state) (x .«dispatched_at») (x .runtime ∷ x .affinity ∷ w ∷ x .last ∷ [])
 numbers-are d v x w = ap (λ (l : List ℕ). d ∷ v ∷ l)
     (go (x .state) (x .«dispatched_at») (x .runtime ∷ x .affinity ∷ w ∷ x .last ∷ []))
   where
     go : (st : RunState) (t : ℕ) (l : List ℕ)
-        → script.stateNumber st ∷ script.pcpuNumber st ∷ script.clockNumber t st ∷ l ≡ page.stateNumbers st t l
+        → host-text.stateNumber st ∷ host-text.pcpuNumber st ∷ host-text.clockNumber t st ∷ l ≡ page.stateNumbers st t l
     go Offline t l = refl
     go Runnable t l = refl
     go (Running p) t l = refl
@@ -41,12 +40,12 @@ numbers-are d v x w = ap (λ (l : List ℕ). d ∷ v ∷ l)
 
 module _ (s : System) (π : Scheduler) where
   slot-line-is : (i : ℕ)
-      → lines.numbersLine (script.vcpuNumbers (i / 8) (i % 8) (vcpuAt s i) (weightOf π (i / 8) (i % 8)))
+      → lines.numbersLine (host-text.vcpuNumbers (i / 8) (i % 8) (vcpuAt s i) (weightOf π (i / 8) (i % 8)))
       ≡ vcpuLine s π (i / 8) (i % 8)
   slot-line-is i =
       numbers-line-is _
       ∙ ap numbersLine
-      (ap₂ (script.vcpuNumbers (i / 8) (i % 8)) (vcpu-is s i) (weight-is π (i / 8) (i % 8))
+      (ap₂ (host-text.vcpuNumbers (i / 8) (i % 8)) (vcpu-is s i) (weight-is π (i / 8) (i % 8))
       ∙ numbers-are (i / 8) (i % 8) (vcpu s (i / 8) (i % 8)) (weight π (i / 8) (i % 8)))
 
   small : vcpus s ≤ 8
@@ -55,8 +54,8 @@ module _ (s : System) (π : Scheduler) where
   abbrev rows : ℕ → List ℕ
   rows n = times (bySlot (λ d v l. l ++ vcpuLine s π d v) (vcpus s) small) n []
 
-  rows-are : (n : ℕ) → script.vcpuRows s π n ≡ rows n
-  unfolding script.vcpuRows times
+  rows-are : (n : ℕ) → host-text.vcpuRows s π n ≡ rows n
+  unfolding host-text.vcpuRows times
   rows-are zero = refl
   rows-are (suc n) =
       ap₂ _++_ (rows-are n) (ap (λ (l : List ℕ). cond (ltb (n % 8) (vcpus s)) l []) (slot-line-is n))
@@ -67,19 +66,17 @@ module _ (s : System) (π : Scheduler) where
       go true l = refl
       go false l = append-nil l
 
-  held-are : (n : ℕ) → script.pcpuRows s n ≡ parts n (λ p. heldLine p (holder s p))
-  unfolding script.pcpuRows times
+  held-are : (n : ℕ) → host-text.pcpuRows s n ≡ parts n (λ p. heldLine p (holder s p))
+  unfolding host-text.pcpuRows times
   held-are zero = refl
-  held-are (suc p) = ap₂ _++_ (held-are p) (ap (script.pcpuRow p) (holder-is s p) ∙ go (holder s p))
+  held-are (suc p) = ap₂ _++_ (held-are p) (ap (host-text.pcpuRow p) (holder-is s p) ∙ go (holder s p))
     where
-      go : (o : Occupant) → script.pcpuRow p o ≡ heldLine p o
+      go : (o : Occupant) → host-text.pcpuRow p o ≡ heldLine p o
       go Idle = refl
       go (Vcpu d v) = pcpu-line-is p d v
 
-pub host-text-is : (h : Host) → script.hostText h ≡ page.hostText (h .system) (h .scheduler)
-unfolding script.hostText page.hostText
-host-text-is h =
-    let s = h .system in
-    let π = h .scheduler in
+pub host-text-is : (s : System) (π : Scheduler) → host-text.hostText s π ≡ page.hostText s π
+unfolding host-text.hostText page.hostText
+host-text-is s π =
     ap₂ _++_ (rows-are s π (domains s * 8) ∙ sym (by-slots (λ d v l. l ++ vcpuLine s π d v) (vcpus s) (small s π) (domains s) []))
     (held-are s π (pcpus s))

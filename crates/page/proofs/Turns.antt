@@ -4,8 +4,8 @@ use mathlib.Core.Bool.{Bool, true, false, cond}
 use mathlib.Core.List.{List, [], _∷_, map}
 use mathlib.Core.Path.{_≡_, refl, sym, _∙_, ap}
 use lib.Dec.{eqb}
-use Rattle.scan.specs.Scan as scans
-use Rattle.scan.specs.Scan.{Pick}
+use Rattle.scans.specs.Scan as scans
+use Rattle.scans.specs.Scan.{Pick}
 use Rattle.demand3.specs.Dated.{Direction, onto, off, Dated}
 use Rattle.demand3.specs.Book.{Book}
 use Rattle.demand3.specs.Lists as lists

@@ -8,7 +8,7 @@ use native.Mathlib.Omega.{arith}
 use lib.Dec.{ltb, leb}
 use lib.ListN.{length}
 use borrow.Author.Tests.{leb-false, lt-ltb}
-use Rattle.scan.specs.Booleans.{all-two}
+use Rattle.scans.specs.Booleans.{all-two}
 use Rattle.big_endian.specs.Numbers.{number, AllBytes}
 use Rattle.big_endian.specs.Laws.{number-within}
 use Rattle.system.specs.declared.System.{System}

@@ -8,7 +8,7 @@ use denote.Ref.{RefT}
 use lib.Dec.{ltb, leb}
 use lib.ListN.{length, take, drop}
 use borrow.Author.Tests.{le-leb, ltb-true}
-use Rattle.scan.specs.Booleans.{both}
+use Rattle.scans.specs.Booleans.{both}
 use Rattle.system.specs.declared.Answer.the-variants.{Done, BadFile, NotInFile}
 use Rattle.system.specs.Answers as answers
 use Rattle.usage_layout.specs.Reading as reading

@@ -9,7 +9,7 @@ use lib.Dec.{ltb}
 use lib.ListN.{length, take, drop, replicate, length-drop}
 use lib.Seq.{length-take-le}
 use borrow.Author.Tests.{lt-ltb, le-ltb, ltb-true}
-use Rattle.scan.specs.Booleans.{both}
+use Rattle.scans.specs.Booleans.{both}
 use Rattle.big_endian.specs.Laws.{number-within}
 use Rattle.usage_layout.specs.Reading as reading
 use Rattle.usage_layout.proofs.Laws.{accepted-parts}

@@ -7,7 +7,8 @@ use Rattle.system.specs.declared.RunState.{RunState}
 use Rattle.system.specs.declared.RunState.the-variants.{Offline, Runnable, Running, Blocked}
 use Rattle.advance.specs.declared.Decision.{Decision}
 use Rattle.advance.specs.declared.Decision.the-variants as decision
-use Rattle.host.specs.declared.Call.{Call}
+use Rattle.calls.specs.declared.Request.{Request}
+use Rattle.calls.specs.declared.Call.{Call}
 use Rattle.page.specs.Host.{times, Found, nobody, over}
 use Rattle.page.specs.Next.{admits, somebody}
 use Rattle.page.specs.Verdict.{runsOn}
@@ -157,17 +158,21 @@ offliningAll k b d now zero = untouched b
 offliningAll k b d now (suc n) =
     then (offliningAll k b d now n) (λ b′. offlining k b′ d n now ((b′ d n) .state))
 
+-- what is asked of d/v; `run` tests 3 first
+abbrev pub asking : Shape → Book → ℕ → ℕ → Request → Entry
+asking k b d v Request.Admit = asked k b d v (admitting b d v ((b d v) .state))
+asking k b d v (Request.Run p now) =
+    cond (ltb p (k .pcpus)) (asked k b d v (dispatching b d v p now (somebody (holder k b p)) ((b d v) .state))) (refused 3 b)
+asking k b d v (Request.Preempt now) = asked k b d v (preempting b d v now ((b d v) .state))
+asking k b d v (Request.Block now) = asked k b d v (blocking b d v now ((b d v) .state))
+asking k b d v Request.Wake = asked k b d v (waking b d v ((b d v) .state))
+asking k b d v (Request.SetAffinity m) = asked k b d v (masking b d v (m % 2 ^ k .pcpus) ((b d v) .state))
+asking k b d v (Request.Offline now) = asked k b d v (offlining k b d v now ((b d v) .state))
+
 -- a call, with the moves that it enacted
 unfoldable pub enter : Shape → Book → Call → List Decision → Entry
-enter k b (Call.Admit d v) ms = asked k b d v (admitting b d v ((b d v) .state))
-enter k b (Call.Run d v p now) ms =
-    cond (ltb p (k .pcpus)) (asked k b d v (dispatching b d v p now (somebody (holder k b p)) ((b d v) .state))) (refused 3 b)
-enter k b (Call.Preempt d v now) ms = asked k b d v (preempting b d v now ((b d v) .state))
-enter k b (Call.Block d v now) ms = asked k b d v (blocking b d v now ((b d v) .state))
-enter k b (Call.Wake d v) ms = asked k b d v (waking b d v ((b d v) .state))
-enter k b (Call.Offline d v now) ms = asked k b d v (offlining k b d v now ((b d v) .state))
+enter k b (Call.Ask d v q) ms = asking k b d v q
 enter k b (Call.OfflineAll d now) ms = offliningAll k b d now (cond (ltb d (k .domains)) (k .vcpus) 0)
-enter k b (Call.SetAffinity d v m) ms = asked k b d v (masking b d v (m % 2 ^ k .pcpus) ((b d v) .state))
 enter k b (Call.SetWeight d v w) ms = untouched b
 enter k b (Call.SetWakeBoost on) ms = untouched b
 enter k b (Call.Advance now) ms = movingAll b now ms

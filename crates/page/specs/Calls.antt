@@ -9,6 +9,7 @@ use Rattle.system.specs.declared.VirtualCpu.{VirtualCpu}
 use Rattle.system.specs.declared.Occupant.{Occupant}
 use Rattle.system.specs.declared.Occupant.the-variants.{Idle, Vcpu}
 use Rattle.system.specs.declared.System.{System}
+use Rattle.calls.specs.declared.Request.{Request}
 use Rattle.page.specs.Host.{domains, vcpus, pcpus, vcpu, holder, times}
 use Rattle.page.specs.Next.{admits, isIdle}
 use Rattle.page.specs.Verdict.{sound}
@@ -149,6 +150,16 @@ offline s d v now = test (sound s) 8 s (asked s d v (offlining s d v now ((vcpu 
 abbrev pub setAffinity : System → ℕ → ℕ → ℕ → Told
 setAffinity s d v m =
     test (sound s) 8 s (asked s d v (masking s d v (m % 2 ^ min (s .«pcpu_count») 64) ((vcpu s d v) .state)))
+
+-- what is asked of d/v
+abbrev pub called : System → ℕ → ℕ → Request → Told
+called s d v Request.Admit = admit s d v
+called s d v (Request.Run p now) = run s d v p now
+called s d v (Request.Preempt now) = preempt s d v now
+called s d v (Request.Block now) = block s d v now
+called s d v Request.Wake = wake s d v
+called s d v (Request.SetAffinity m) = setAffinity s d v m
+called s d v (Request.Offline now) = offline s d v now
 
 -- a bad domain changes nothing and is told 0
 abbrev pub offlineAll : System → ℕ → ℕ → Told

@@ -9,7 +9,8 @@ use Rattle.system.specs.declared.RunState.{RunState}
 use Rattle.system.specs.declared.RunState.the-variants.{Offline, Runnable, Running, Blocked}
 use Rattle.system.specs.declared.VirtualCpu.{VirtualCpu}
 use Rattle.host.specs.declared.Host.{Host}
-use Rattle.host.specs.declared.Call.{Call}
+use Rattle.calls.specs.declared.Request.{Request}
+use Rattle.calls.specs.declared.Call.{Call}
 use Rattle.page.specs.Host.{Found, nobody, one, vcpu}
 use Rattle.page.specs.Steps.{step}
 use Rattle.page.specs.Book.{Shape, Book, Dated, onto, off, blank, holder, comesOff}
@@ -47,16 +48,19 @@ pub data Turns (p : ℕ) : Hold → List Dated → Hold → Type 0 where
   elsewhere : {m : Dated} {ms : List Dated} {g h : Hold} → (pcpuOf m ≡ p → ⊥) → Turns p g ms h → Turns p g (m ∷ ms) h
 
 -- the clock that a call carries
+abbrev pub requestClock : Request → Clock
+requestClock Request.Admit = none
+requestClock (Request.Run p now) = at now
+requestClock (Request.Preempt now) = at now
+requestClock (Request.Block now) = at now
+requestClock Request.Wake = none
+requestClock (Request.SetAffinity m) = none
+requestClock (Request.Offline now) = at now
+
 abbrev pub clockOf : Call → Clock
-clockOf (Call.Run d v p now) = at now
-clockOf (Call.Preempt d v now) = at now
-clockOf (Call.Block d v now) = at now
-clockOf (Call.Offline d v now) = at now
+clockOf (Call.Ask d v q) = requestClock q
 clockOf (Call.OfflineAll d now) = at now
 clockOf (Call.Advance now) = at now
-clockOf (Call.Admit d v) = none
-clockOf (Call.Wake d v) = none
-clockOf (Call.SetAffinity d v m) = none
 clockOf (Call.SetWeight d v w) = none
 clockOf (Call.SetWakeBoost on) = none
 

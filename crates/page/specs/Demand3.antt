@@ -16,7 +16,7 @@ use Rattle.system.specs.declared.MaybeU64.{MaybeU64}
 use Rattle.verdict.specs.declared.Violation.the-variants.{None}
 use Rattle.advance.specs.declared.Decision.{Decision}
 use Rattle.advance.specs.declared.Decision.the-variants as decision
-use Rattle.host.specs.declared.Call.{Call}
+use Rattle.calls.specs.declared.Call.{Call}
 use Rattle.page.specs.Host as host
 use Rattle.page.specs.Host.{Found, nobody, one, times, vcpu}
 use Rattle.page.specs.Policy.{account, number, weight}

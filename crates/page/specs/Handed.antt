@@ -1,7 +1,7 @@
 -- What the code hands back beside an answer: the answer by its number, the rest as it is, the moves counted.
 use mathlib.Core.Path.{_≡_}
 use lib.ListN.{length}
-use Rattle.system.specs.declared.Stepped.{Stepped}
+use Rattle.system.specs.declared.Transitioned.{Transitioned}
 use Rattle.policy.specs.declared.Adjusted.{Adjusted}
 use Rattle.advance.specs.declared.Recommendation.{Recommendation}
 use Rattle.advance.specs.declared.Advanced as declared
@@ -13,7 +13,7 @@ use Rattle.page.specs.Steps.{numberOf}
 use Rattle.page.specs.Load.{Opening}
 
 -- r is what that call of the mechanism hands back
-pub record HandsSystem (r : Stepped) (e : Told) : Type 0 where
+pub record HandsSystem (r : Transitioned) (e : Told) : Type 0 where
   pub number : numberOf (r .answer) ≡ e .number
   pub system : r .system ≡ e .system
 

@@ -1,6 +1,5 @@
 -- Calls of one vCPU made in place: whoever holds a system reads two of its records and stores what is left of them. That is the call.
 use Prim.Native.Nat.{ℕ, _+_, _*_, _%_}
-use mathlib.Core.Bool.{Bool}
 use mathlib.Core.Path.{_≡_}
 use lib.ListN.{getD, set}
 use Rattle.system.specs.declared.RunState.{RunState}
@@ -9,11 +8,11 @@ use Rattle.system.specs.declared.VirtualCpu.{VirtualCpu}
 use Rattle.system.specs.declared.PhysicalCpu.{PhysicalCpu}
 use Rattle.system.specs.declared.Occupant.the-variants.{Idle}
 use Rattle.system.specs.declared.System.{System}
-use Rattle.changes.specs.declared.Request.{Request}
+use Rattle.calls.specs.declared.Request.{Request}
 use Rattle.changes.specs.declared.After.{After}
-use Rattle.page.specs.Host.{vcpu}
+use Rattle.sched.specs.declared.Frame.{Frame}
 use Rattle.page.specs.Verdict.{sound}
-use Rattle.page.specs.Calls.{Told, vc, test, asked, masking, admit, run, preempt, block, wake, offline}
+use Rattle.page.specs.Calls.{vc, called}
 use Rattle.page.specs.Steps.{numberOf}
 
 -- ---- What is read: whatever the ids, in the tables
@@ -43,23 +42,13 @@ abbrev pub pcpuAt : System → ℕ → PhysicalCpu
 pcpuAt s p = getD (s .pcpus) p (record { occupant = Idle })
 
 -- of s: whether it is sound, its counts, and the two records that a request of d/v reads
-pub record Read (s : System) (d v : ℕ) (q : Request) (b : Bool) (n k m : ℕ) (x : VirtualCpu) (c : PhysicalCpu) : Type 0 where
-  pub sound : b ≡ sound s
-  pub domains : n ≡ s .«domain_count»
-  pub vcpus : k ≡ s .«vcpus_per_domain»
-  pub pcpus : m ≡ s .«pcpu_count»
+pub record Read (s : System) (d v : ℕ) (q : Request) (f : Frame) (x : VirtualCpu) (c : PhysicalCpu) : Type 0 where
+  pub sound : f .sound ≡ sound s
+  pub domains : f .«domain_count» ≡ s .«domain_count»
+  pub vcpus : f .«vcpus_per_domain» ≡ s .«vcpus_per_domain»
+  pub pcpus : f .«pcpu_count» ≡ s .«pcpu_count»
   pub vcpu : x ≡ vcpuAt s (slotRead d v)
   pub pcpu : c ≡ pcpuAt s (pcpuRead q x)
-
--- ---- The call that a request of d/v is. A mask is taken as it is given: it is clipped before.
-abbrev pub called : System → ℕ → ℕ → Request → Told
-called s d v Request.Admit = admit s d v
-called s d v (Request.Run p now) = run s d v p now
-called s d v (Request.Preempt now) = preempt s d v now
-called s d v (Request.Block now) = block s d v now
-called s d v Request.Wake = wake s d v
-called s d v (Request.SetAffinity m) = test (sound s) 8 s (asked s d v (masking s d v m ((vcpu s d v) .state)))
-called s d v (Request.Offline now) = offline s d v now
 
 -- ---- What is handed back is told, and stored
 abbrev pub store : System → ℕ → ℕ → After → System
@@ -77,5 +66,5 @@ pub record Does (s : System) (d v : ℕ) (q : Request) (r : After) : Type 0 wher
   pub system : store s (slotRead d v) (pcpuRead q (vcpuAt s (slotRead d v))) r ≡ (called s d v q) .system
 
 -- on every system of which these were read
-abbrev pub InPlace : ℕ → ℕ → Request → Bool → ℕ → ℕ → ℕ → VirtualCpu → PhysicalCpu → After → Type 0
-InPlace d v q b n k m x c r = (s : System) → Read s d v q b n k m x c → Does s d v q r
+abbrev pub InPlace : ℕ → ℕ → Request → Frame → VirtualCpu → PhysicalCpu → After → Type 0
+InPlace d v q f x c r = (s : System) → Read s d v q f x c → Does s d v q r

@@ -5,7 +5,8 @@ use mathlib.Core.List.{List, [], _∷_, _++_}
 use mathlib.Core.Path.{_≡_}
 use lib.Dec.{ltb, eqb}
 use Rattle.host.specs.declared.Host.{Host}
-use Rattle.host.specs.declared.Call.{Call}
+use Rattle.calls.specs.declared.Request.{Request}
+use Rattle.calls.specs.declared.Call.{Call}
 use Rattle.page.specs.Policy.{newPolicy}
 use Rattle.page.specs.Standing.{inFlight}
 use Rattle.page.specs.Calls.{newSystem}
@@ -31,15 +32,18 @@ pub record Sized (k : Shape) : Type 0 where
   pub pcpus : k .pcpus ≤ 64
 
 -- ids of 16 and 32 bits, clocks and masks of 64, weights of 32
+abbrev pub TypedRequest : Request → Type 0
+TypedRequest Request.Admit = Unit {0}
+TypedRequest (Request.Run p now) = (p < 2 ^ 32) × (now < 2 ^ 64)
+TypedRequest (Request.Preempt now) = now < 2 ^ 64
+TypedRequest (Request.Block now) = now < 2 ^ 64
+TypedRequest Request.Wake = Unit {0}
+TypedRequest (Request.SetAffinity m) = m < 2 ^ 64
+TypedRequest (Request.Offline now) = now < 2 ^ 64
+
 abbrev pub Typed : Call → Type 0
-Typed (Call.Admit d v) = (d < 2 ^ 16) × (v < 2 ^ 32)
-Typed (Call.Run d v p now) = (d < 2 ^ 16) × (v < 2 ^ 32) × (p < 2 ^ 32) × (now < 2 ^ 64)
-Typed (Call.Preempt d v now) = (d < 2 ^ 16) × (v < 2 ^ 32) × (now < 2 ^ 64)
-Typed (Call.Block d v now) = (d < 2 ^ 16) × (v < 2 ^ 32) × (now < 2 ^ 64)
-Typed (Call.Wake d v) = (d < 2 ^ 16) × (v < 2 ^ 32)
-Typed (Call.Offline d v now) = (d < 2 ^ 16) × (v < 2 ^ 32) × (now < 2 ^ 64)
+Typed (Call.Ask d v q) = (d < 2 ^ 16) × (v < 2 ^ 32) × TypedRequest q
 Typed (Call.OfflineAll d now) = (d < 2 ^ 16) × (now < 2 ^ 64)
-Typed (Call.SetAffinity d v m) = (d < 2 ^ 16) × (v < 2 ^ 32) × (m < 2 ^ 64)
 Typed (Call.SetWeight d v w) = (d < 2 ^ 16) × (v < 2 ^ 32) × (w < 2 ^ 32)
 Typed (Call.SetWakeBoost on) = Unit {0}
 Typed (Call.Advance now) = now < 2 ^ 64
@@ -78,14 +82,8 @@ serviceOf b reading d v = let l = b d v in l .time + inFlight (l .state) (readin
 -- ---- w: 256, until a weight call of these very ids sets another, with 0 set as 1; always 256 outside the policy's shape
 abbrev pub weightBy : ℕ → ℕ → ℕ → Call → ℕ
 weightBy d v w (Call.SetWeight e u x) = cond (eqb e d && eqb u v) (max x 1) w
-weightBy d v w (Call.Admit e u) = w
-weightBy d v w (Call.Run e u p now) = w
-weightBy d v w (Call.Preempt e u now) = w
-weightBy d v w (Call.Block e u now) = w
-weightBy d v w (Call.Wake e u) = w
-weightBy d v w (Call.Offline e u now) = w
+weightBy d v w (Call.Ask e u q) = w
 weightBy d v w (Call.OfflineAll e now) = w
-weightBy d v w (Call.SetAffinity e u m) = w
 weightBy d v w (Call.SetWakeBoost on) = w
 weightBy d v w (Call.Advance now) = w
 
@@ -101,19 +99,19 @@ weightAfter f cs d v =
 
 -- it is set up: nobody is dispatched, and masks stay full
 pub data Prepares (k : Shape) : Call → Type 0 where
-  admit : (d v : ℕ) → Prepares k (Call.Admit d v)
-  block : (d v now : ℕ) → Prepares k (Call.Block d v now)
-  wake : (d v : ℕ) → Prepares k (Call.Wake d v)
-  offline : (d v now : ℕ) → Prepares k (Call.Offline d v now)
+  admit : (d v : ℕ) → Prepares k (Call.Ask d v Request.Admit)
+  block : (d v now : ℕ) → Prepares k (Call.Ask d v (Request.Block now))
+  wake : (d v : ℕ) → Prepares k (Call.Ask d v Request.Wake)
+  offline : (d v now : ℕ) → Prepares k (Call.Ask d v (Request.Offline now))
   offline-all : (d now : ℕ) → Prepares k (Call.OfflineAll d now)
-  mask : (d v m : ℕ) → m % 2 ^ k .pcpus ≡ full k → Prepares k (Call.SetAffinity d v m)
+  mask : (d v m : ℕ) → m % 2 ^ k .pcpus ≡ full k → Prepares k (Call.Ask d v (Request.SetAffinity m))
   weigh : (d v w : ℕ) → Prepares k (Call.SetWeight d v w)
   boost : (on : Bool) → Prepares k (Call.SetWakeBoost on)
 
 -- a vCPU departs
 pub data Departs : Call → Type 0 where
-  block : (d v now : ℕ) → Departs (Call.Block d v now)
-  offline : (d v now : ℕ) → Departs (Call.Offline d v now)
+  block : (d v now : ℕ) → Departs (Call.Ask d v (Request.Block now))
+  offline : (d v now : ℕ) → Departs (Call.Ask d v (Request.Offline now))
   offline-all : (d now : ℕ) → Departs (Call.OfflineAll d now)
 
 -- from the host h on, after an advance at clock t: advances whose clocks do not run back and are at most g apart, departures at any
@@ -151,14 +149,8 @@ orEarlier (at t) e = at t
 
 abbrev pub advanceClock : Call → Clock
 advanceClock (Call.Advance now) = at now
-advanceClock (Call.Admit d v) = none
-advanceClock (Call.Run d v p now) = none
-advanceClock (Call.Preempt d v now) = none
-advanceClock (Call.Block d v now) = none
-advanceClock (Call.Wake d v) = none
-advanceClock (Call.Offline d v now) = none
+advanceClock (Call.Ask d v q) = none
 advanceClock (Call.OfflineAll d now) = none
-advanceClock (Call.SetAffinity d v m) = none
 advanceClock (Call.SetWeight d v w) = none
 advanceClock (Call.SetWakeBoost on) = none
 

@@ -13,7 +13,7 @@ unfoldable pub use Rattle.page.specs.Verdict.{firstViolation, sound}
 unfoldable pub use Rattle.page.specs.Calls.{refused, done, test, putVcpu, putHolder, vc, full, into, ranFor}
 unfoldable pub use Rattle.page.specs.Calls.{off, admitting, dispatching, preempting, blocking, waking}
 unfoldable pub use Rattle.page.specs.Calls.{offlining, masking, asked, admit, run, preempt, block, wake}
-unfoldable pub use Rattle.page.specs.Calls.{offline, setAffinity, offlineAll, newSystem, newSystemTold}
+unfoldable pub use Rattle.page.specs.Calls.{offline, setAffinity, called, offlineAll, newSystem, newSystemTold}
 pub use Rattle.page.specs.Calls.{Told}
 unfoldable pub use Rattle.page.specs.Advance.{nextTold, enact, settle, advance}
 pub use Rattle.page.specs.Advance.{Recommended, Settled, Advanced}

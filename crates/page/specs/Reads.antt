@@ -1,12 +1,11 @@
 -- The reads of document 01, with 2.1 and 2.6 of document 02: never told 8; an id at or above its count, or its size, is absent.
-use Prim.Native.Nat.{ℕ, _+_, _-_, _^_, min}
-use mathlib.Core.Bool.{Bool, true, false, cond, not, _&&_}
+use Prim.Native.Nat.{ℕ, _+_, _-_, _^_}
+use mathlib.Core.Bool.{Bool, true, false, cond, _&&_}
 use lib.Dec.{ltb}
 use Rattle.system.specs.declared.RunState.{RunState}
 use Rattle.system.specs.declared.RunState.the-variants.{Offline, Runnable, Running, Blocked}
-use Rattle.system.specs.declared.VirtualCpu.{VirtualCpu}
 use Rattle.system.specs.declared.Occupant.{Occupant}
-use Rattle.system.specs.declared.Occupant.the-variants.{Idle, Vcpu}
+use Rattle.system.specs.declared.Occupant.the-variants.{Idle}
 use Rattle.system.specs.declared.System.{System}
 use Rattle.system.specs.declared.MaybeVcpu.{MaybeVcpu}
 use Rattle.system.specs.declared.MaybeState.{MaybeState}

@@ -7,7 +7,8 @@ use lib.ListN.{length, getD, drop}
 use lib.Seq.{sets}
 use Rattle.system.specs.declared.Answer.the-variants.{TooLarge, BadScript}
 use Rattle.host.specs.declared.Host.{Host}
-use Rattle.host.specs.declared.Call.{Call}
+use Rattle.calls.specs.declared.Request.{Request}
+use Rattle.calls.specs.declared.Call.{Call}
 use Rattle.records.specs.declared.Record.{Record}
 use Rattle.records.specs.declared.Plan.{Plan}
 use Rattle.script.specs.declared.Script.{Script}
@@ -52,13 +53,13 @@ plan built bs =
     (Plan.Refuse TooLarge))
     (getD
     (no
-    ∷ call (Call.Admit d v)
-    ∷ call (Call.Run d v third value)
-    ∷ call (Call.Preempt d v value)
-    ∷ call (Call.Block d v value)
-    ∷ call (Call.Wake d v)
-    ∷ call (Call.Offline d v value)
-    ∷ call (Call.SetAffinity d v value)
+    ∷ call (Call.Ask d v Request.Admit)
+    ∷ call (Call.Ask d v (Request.Run third value))
+    ∷ call (Call.Ask d v (Request.Preempt value))
+    ∷ call (Call.Ask d v (Request.Block value))
+    ∷ call (Call.Ask d v Request.Wake)
+    ∷ call (Call.Ask d v (Request.Offline value))
+    ∷ call (Call.Ask d v (Request.SetAffinity value))
     ∷ call (Call.SetWeight d v third)
     ∷ call (Call.Advance value)
     ∷ call (Call.SetWakeBoost (not (eqb value 0)))

@@ -12,7 +12,7 @@ use Rattle.system.specs.declared.Answer.the-variants.{FoundOffline, FoundRunnab
 use Rattle.policy.specs.declared.Scheduler.{Scheduler}
 use Rattle.advance.specs.declared.Decision.{Decision}
 use Rattle.host.specs.declared.Host.{Host}
-use Rattle.host.specs.declared.Call.{Call}
+use Rattle.calls.specs.declared.Call.{Call}
 use Rattle.host.specs.declared.Outcome as declared
 use Rattle.page.specs.Calls as calls
 use Rattle.page.specs.Policy.{setWeight, setWakeBoost}
@@ -37,14 +37,8 @@ abbrev pub byAdvance : Advanced → Step
 byAdvance r = record { number = r .number; host = record { system = r .system; scheduler = r .policy }; moves = r .moves }
 
 unfoldable pub step : Host → Call → Step
-step h (Call.Admit d v) = bySystem h (calls.admit (h .system) d v)
-step h (Call.Run d v p now) = bySystem h (calls.run (h .system) d v p now)
-step h (Call.Preempt d v now) = bySystem h (calls.preempt (h .system) d v now)
-step h (Call.Block d v now) = bySystem h (calls.block (h .system) d v now)
-step h (Call.Wake d v) = bySystem h (calls.wake (h .system) d v)
-step h (Call.Offline d v now) = bySystem h (calls.offline (h .system) d v now)
+step h (Call.Ask d v q) = bySystem h (calls.called (h .system) d v q)
 step h (Call.OfflineAll d now) = bySystem h (calls.offlineAll (h .system) d now)
-step h (Call.SetAffinity d v m) = bySystem h (calls.setAffinity (h .system) d v m)
 step h (Call.SetWeight d v w) = byPolicy h (setWeight (h .scheduler) d v w)
 step h (Call.SetWakeBoost on) = byPolicy h (setWakeBoost (h .scheduler) on)
 step h (Call.Advance now) = byAdvance (advance (h .system) (h .scheduler) now)

@@ -1,17 +1,17 @@
-//! A stretch of a script played from standard input to standard output, as `replay` and `trace` do it.
+//! A script played from standard input to standard output, as `replay` and `trace` do it.
 
 ghost use Rattle.play.specs.Stretched.{Stretched};
 use script::Script;
 
-/// A script under way, and whether there may be more of it.
-pub struct Turn {
-    pub script: Script,
-    pub more: bool,
+// A script under way, and whether there may be more of it.
+struct Turn {
+    script: Script,
+    more: bool,
 }
 
-/// Reads as many bytes as `input` has, plays their records and writes the text, with the states where they are asked for. Where
-/// standard input cannot be read, or standard output does not take it all, the words for it are said and there is no more.
-pub fn stretch(
+// Reads as many bytes as `input` has, plays their records and writes the text. Where standard input cannot be read, or standard
+// output does not take it all, the words for it are said and there is no more.
+fn stretch(
     s: Script,
     input: &mut [u8],
     output: &mut [u8],
@@ -33,5 +33,21 @@ pub fn stretch(
     Turn {
         script,
         more: put & (bytes == input.len()) & !got.failed,
+    }
+}
+
+/// Plays what standard input has, as many bytes at a time as `input` has, and writes the text, with the states where they are asked
+/// for. Where standard input cannot be read, or standard output does not take it all, the words for it are said and it ends.
+pub fn to_end(input: &mut [u8], output: &mut [u8], states: bool, unread: &[u8], untaken: &[u8]) {
+    let mut s = Script::new();
+    // a proved loop has to end, and nothing says that the input does
+    let mut turns = u64::MAX;
+    while turns > 0 {
+        let turned = stretch(s, input, output, states, unread, untaken);
+        if !turned.more {
+            return;
+        }
+        s = turned.script;
+        turns -= 1;
     }
 }

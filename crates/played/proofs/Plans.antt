@@ -1,5 +1,5 @@
--- What a record of bytes can be for: a refusal, a build within the sizes, or, once there is a host, a call that fits its types.
--- Assumes nothing.
+-- What a record of bytes can be for: a refusal, a build within the sizes, or, once there is a host, a call that fits
+-- its types. Assumes nothing.
 use Prim.Native.Nat.{ℕ, zero, suc}
 use mathlib.Core.Bool.{Bool, true, false, cond}
 use mathlib.Core.Path.{_≡_, refl}
@@ -10,13 +10,13 @@ use Rattle.system.specs.declared.Answer.{Answer}
 use Rattle.system.specs.declared.Answer.the-variants.{TooLarge, BadScript}
 use Rattle.system.specs.Shape.{withinSizes}
 use Rattle.verdict.specs.Sound.{within-sizes}
-use Rattle.host.specs.declared.Call.{Call}
-use Rattle.host.specs.Typed.{Typed}
+use Rattle.calls.specs.declared.Call.{Call}
+use Rattle.calls.specs.Typed.{Typed}
 use Rattle.records.specs.declared.Record.{Record}
 use Rattle.records.specs.declared.MaybeCall.{MaybeCall}
 use Rattle.records.specs.declared.Shape.{Shape}
 use Rattle.records.specs.declared.Plan.{Plan}
-use Rattle.records.specs.Bytes.{Fits}
+use Rattle.records.specs.Bytes.{FitsRecord}
 use Rattle.records.specs.Records.{recordOf, callsOf, callOf, shapeOf, buildOf, afterBuild, planOf}
 use Rattle.big_endian.specs.Numbers.{AllBytes}
 use Rattle.big_endian.specs.Laws.{number-below}
@@ -24,10 +24,11 @@ use Rattle.played.specs.Played.{Sized}
 
 pub data Fit (built : Bool) : Plan → Type 0 where
   refuse : (a : Answer) → Fit built (Plan.Refuse a)
-  build : (s : Shape) → withinSizes (s .«num_domains») (s .«vcpus_per_domain») (s .«num_pcpus») ≡ true → Sized s → Fit built (Plan.Build s)
+  build : (s : Shape) → withinSizes (s .«num_domains») (s .«vcpus_per_domain») (s .«num_pcpus») ≡ true → Sized s
+      → Fit built (Plan.Build s)
   call : (c : Call) → built ≡ true → Typed c → Fit built (Plan.Call c)
 
-fields-fit : (bs : List ℕ) → AllBytes bs → Fits (recordOf bs)
+fields-fit : (bs : List ℕ) → AllBytes bs → FitsRecord (recordOf bs)
 fields-fit bs a =
     record {
       kind = number-below bs a 0 2;
@@ -51,7 +52,7 @@ at-kind [] a k = tt
 at-kind (m ∷ ms) a zero = a .0
 at-kind (m ∷ ms) a (suc k) = at-kind ms (a .1) k
 
-call-typed : (r : Record) → Fits r → MaybeTyped (callOf r)
+call-typed : (r : Record) → FitsRecord r → MaybeTyped (callOf r)
 call-typed r f = at-kind (callsOf r) (search depth 20) (r .kind)
 
 call-fits : (built : Bool) (m : MaybeCall) → MaybeTyped m → Fit built (afterBuild built m)
@@ -59,13 +60,14 @@ call-fits built MaybeCall.None t = refuse BadScript
 call-fits true (MaybeCall.Some c) t = call c refl t
 call-fits false (MaybeCall.Some c) t = refuse BadScript
 
-build-fits : (built : Bool) (r : Record) → Fits r → Fit built (buildOf r)
+build-fits : (built : Bool) (r : Record) → FitsRecord r → Fit built (buildOf r)
 build-fits built r f = go (withinSizes (r .dom) (r .vcpu) (r .third)) refl
   where
-    go : (b : Bool) → withinSizes (r .dom) (r .vcpu) (r .third) ≡ b → Fit built (cond b (Plan.Build (shapeOf r)) (Plan.Refuse TooLarge))
+    go : (b : Bool) → withinSizes (r .dom) (r .vcpu) (r .third) ≡ b
+        → Fit built (cond b (Plan.Build (shapeOf r)) (Plan.Refuse TooLarge))
     go true e =
         let w = within-sizes (r .dom) (r .vcpu) (r .third) e in
-        build (shapeOf r) e (record { domains = w .0; vcpus = w .1; pcpus = w .2; slice = f .value })
+        build (shapeOf r) e (record { sizes = record { domains = w .0; vcpus = w .1; pcpus = w .2 }; slice = f .value })
     go false e = refuse TooLarge
 
 either : {built : Bool} {p q : Plan} (b : Bool) → Fit built p → Fit built q → Fit built (cond b p q)

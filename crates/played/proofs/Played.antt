@@ -1,4 +1,5 @@
--- What a script holds is the host of its latest build after the calls since, and demand 3 holds of it. Assumes nothing.
+-- What a script holds is the host of its latest build after the calls since, and demand 3 holds of it. Assumes
+-- nothing.
 use Prim.Native.Nat.{ℕ, zero, suc, _+_, _*_, _%_, _^_}
 use mathlib.Core.Bool.{Bool, true, false, false≢true}
 use mathlib.Core.Path.{_≡_, refl, sym, _∙_, ap, ap₂}
@@ -8,18 +9,20 @@ use native.Mathlib.Numerals.{add-one}
 use native.Mathlib.Omega.{arith}
 use lib.ListN.{drop}
 use Rattle.host.specs.declared.Host.{Host}
-use Rattle.host.specs.declared.Call.{Call}
+use Rattle.calls.specs.declared.Call.{Call}
 use Rattle.host.specs.Step.{step, hostAfter}
-use Rattle.host.specs.Typed.{Typed}
+use Rattle.calls.specs.Typed.{Typed}
 use Rattle.demand3.specs.Lists.{AllTyped}
-use Rattle.demand3.proofs.Laws.{demand-3}
+use Rattle.demand3.specs.Built.{asked}
+use Rattle.demand3.proofs.Laws.{demand-3, host-after-same}
 use Rattle.records.specs.declared.Plan.{Plan}
 use Rattle.script.specs.declared.Script.{Script}
 use Rattle.script.specs.Script.{begun, carried, builtAfter, scriptNext, lineTold, hostShown, entry, scriptAfter, text}
-use Rattle.played.specs.Played.{Played, nothing, with, planAt, played, hostBuilt, hostOf, answerTo, movesOf, lineOf, written}
+use Rattle.played.specs.Played.{Played, nothing, with, planAt, played, hostBuilt, hostOf, answerTo, movesOf}
+use Rattle.played.specs.Played.{lineOf, written}
 use Rattle.big_endian.specs.Numbers.{AllBytes}
 use Rattle.big_endian.specs.Laws.{bytes-left}
-use Rattle.played.specs.Played.{Sized, EveryScript}
+use Rattle.played.specs.Played.{shapeBuilt, Sized, EveryScript}
 use Rattle.played.proofs.Plans.{Fit, refuse, build, call, plan-fits}
 
 -- the script after n records that came to r
@@ -96,7 +99,7 @@ module _ (bs : List ℕ) (bytes : AllBytes bs) where
   kept zero =
       record {
         unbuilt = λ e. refl;
-        sized = record { domains = omega arith; vcpus = omega arith; pcpus = omega arith; slice = omega arith };
+        sized = record { sizes = record { domains = omega arith; vcpus = omega arith; pcpus = omega arith }; slice = omega arith };
         typed = tt;
       }
   kept (suc n) = kept-with (played bs n) (fits n) (kept n)
@@ -124,6 +127,9 @@ as-played bs bytes n =
       text = λ states. text-after bs bytes states n;
       sized = k .sized;
       typed = k .typed;
-      holds = demand-3 (s .«num_domains») (s .«vcpus_per_domain») (s .«num_pcpus») (s .«num_domains») (s .«vcpus_per_domain») (s .quantum)
-          (k .sized .domains) (k .sized .vcpus) (k .sized .pcpus) (r .calls) (k .typed);
+      holds =
+          record {
+            host = λ before. sym (host-after-same (hostBuilt s) before);
+            holds = demand-3 (asked (shapeBuilt s) (s .quantum) (k .sized .sizes)) (r .calls) (k .typed);
+          };
     }

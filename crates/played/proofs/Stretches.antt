@@ -9,7 +9,7 @@ use lib.Seq.{take-append-seam}
 use Rattle.text.specs.Places.{Placed}
 use Rattle.script.specs.declared.Script.{Script}
 use Rattle.script.specs.Script.{begun, scriptAfter, text, room, taken}
-use Rattle.script.specs.Laws.{after-then, text-then}
+use Rattle.script.specs.InStretches.{after-then, text-then}
 use Rattle.played.specs.Stretches.{Held, first, more, ended, EveryStretch}
 use Rattle.played.proofs.Played.{as-played}
 

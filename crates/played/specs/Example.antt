@@ -4,7 +4,8 @@ use mathlib.Core.Bool.{true}
 use mathlib.Core.Path.{_≡_, refl}
 use mathlib.Core.List.{List, [], _∷_, _++_}
 use lib.ListN.{take}
-use Rattle.host.specs.declared.Call.{Call}
+use Rattle.calls.specs.declared.Call.{Call}
+use Rattle.calls.specs.Asked as call
 use Rattle.records.specs.declared.Shape.{Shape}
 use Rattle.records.specs.Bytes.{bytesOf}
 use Rattle.script.specs.Computing.{replaying}
@@ -20,7 +21,7 @@ since cs = record { built = true; shape = shape; calls = cs }
 
 -- the script that the requirements show: its build, and six calls, of which the last is refused
 pub example-played : played example 7
-    ≡ since (Call.Admit 0 0 ∷ Call.Admit 0 1 ∷ Call.Advance 100 ∷ Call.Advance 105 ∷ Call.Advance 110 ∷ Call.Run 0 0 0 110 ∷ [])
+    ≡ since (call.admit 0 0 ∷ call.admit 0 1 ∷ Call.Advance 100 ∷ Call.Advance 105 ∷ Call.Advance 110 ∷ call.run 0 0 0 110 ∷ [])
 unfolding replaying played
 example-played = refl
 
@@ -35,6 +36,6 @@ mixed =
     ++ (bytesOf 1 0 0 0 0
     ++ (bytesOf 1 0 0 0 0 ++ (bytesOf 11 0 0 0 0 ++ (bytesOf 0 17 2 1 10 ++ take 19 (bytesOf 9 0 0 0 7))))))))
 
-pub mixed-played : played mixed 9 ≡ since (Call.Admit 0 0 ∷ Call.Admit 0 0 ∷ [])
+pub mixed-played : played mixed 9 ≡ since (call.admit 0 0 ∷ call.admit 0 0 ∷ [])
 unfolding replaying played
 mixed-played = refl

@@ -1,6 +1,6 @@
--- What the records of a script come to: its latest build, the calls since, and what each record is told. What holds of every
--- script is proved as `as-played`.
-use Prim.Native.Nat.{ℕ, zero, suc, _*_, _%_, _^_, _≤_, _<_}
+-- What the records of a script come to: its latest build, the calls since, and what each record is told. What holds
+-- of every script is proved as `as-played`.
+use Prim.Native.Nat.{ℕ, zero, suc, _*_, _%_, _^_, _<_}
 use mathlib.Core.Bool.{Bool, true, false, cond, _&&_}
 use mathlib.Core.Path.{_≡_}
 use mathlib.Core.List.{List, [], _∷_, _++_}
@@ -9,15 +9,18 @@ use Rattle.big_endian.specs.Numbers.{AllBytes}
 use Rattle.system.specs.declared.Answer.the-variants.{Done}
 use Rattle.system.specs.Answers.{told}
 use Rattle.host.specs.declared.Host.{Host}
-use Rattle.host.specs.declared.Call.{Call}
+use Rattle.calls.specs.declared.Call.{Call}
 use Rattle.host.specs.Step.{step, hostAfter, freshHost}
+use Rattle.demand3.specs.Book as book
 use Rattle.demand3.specs.Lists.{AllTyped}
+use Rattle.demand3.specs.Fresh as fresh
+use Rattle.demand3.specs.Built.{asked}
 use Rattle.demand3.specs.Demand3.{Demand-3}
 use Rattle.text.specs.Lines.{answerLine}
 use Rattle.records.specs.declared.Shape.{Shape}
 use Rattle.records.specs.declared.Plan.{Plan}
 use Rattle.records.specs.Records.{planOf}
-use Rattle.script.specs.HostText.{hostText}
+use Rattle.host_text.specs.HostText.{hostText}
 use Rattle.script.specs.Script.{begun, scriptAfter}
 use Rattle.script.specs.Script as scripts
 
@@ -77,25 +80,27 @@ lineOf bs n =
     answerLine (suc n % 2 ^ 64) (answerTo (played bs n) p) (movesOf (played bs n) p)
 
 abbrev pub shown : Bool → Played → List ℕ
-shown states r = cond (states && r .built) (hostText (hostOf r)) []
+shown states r = cond (states && r .built) (hostText (hostOf r .system) (hostOf r .scheduler)) []
 
 -- the text of the first n records
 unfoldable pub written : Bool → List ℕ → ℕ → List ℕ
 written states bs zero = []
 written states bs (suc n) = written states bs n ++ (lineOf bs n ++ shown states (played bs (suc n)))
 
+-- the shape of a system, as demand 3 has it
+abbrev pub shapeBuilt : Shape → book.Shape
+shapeBuilt s = record { domains = s .«num_domains»; vcpus = s .«vcpus_per_domain»; pcpus = s .«num_pcpus» }
+
 -- a shape within the sizes, with a slice of 64 bits
 pub record Sized (s : Shape) : Type 0 where
-  pub domains : s .«num_domains» ≤ 16
-  pub vcpus : s .«vcpus_per_domain» ≤ 8
-  pub pcpus : s .«num_pcpus» ≤ 64
+  pub sizes : fresh.Sized (shapeBuilt s)
   pub slice : s .quantum < 2 ^ 64
 
--- demand 3 of a host of that shape and slice, over a list of calls
-abbrev pub Holds : Shape → List Call → Type 0
-Holds s cs =
-    Demand-3 (record { domains = s .«num_domains»; vcpus = s .«vcpus_per_domain»; pcpus = s .«num_pcpus» }) (s .«num_domains»)
-    (s .«vcpus_per_domain») (s .quantum) (hostBuilt s) cs
+-- demand 3 over a list of calls, and that it speaks of the host as built, after every part of them
+pub record Holds (s : Shape) (z : fresh.Sized (shapeBuilt s)) (cs : List Call) : Type 0 where
+  pub host : (before : List Call)
+      → hostAfter (hostBuilt s) before ≡ fresh.hostAt (asked (shapeBuilt s) (s .quantum) z) before
+  pub holds : Demand-3 (asked (shapeBuilt s) (s .quantum) z) cs
 
 -- what holds after n records: what they come to decides the script that is held and the text, and demand 3 holds of it
 pub record AsPlayed (bs : List ℕ) (n : ℕ) : Type 0 where
@@ -110,7 +115,7 @@ pub record AsPlayed (bs : List ℕ) (n : ℕ) : Type 0 where
   pub sized : Sized ((played bs n) .shape)
   pub typed : AllTyped ((played bs n) .calls)
   -- demand 3, from the latest build on
-  pub holds : Holds ((played bs n) .shape) ((played bs n) .calls)
+  pub holds : Holds ((played bs n) .shape) (sized .sizes) ((played bs n) .calls)
 
 abbrev pub EveryScript : Type 0
 EveryScript = (bs : List ℕ) → AllBytes bs → (n : ℕ) → AsPlayed bs n

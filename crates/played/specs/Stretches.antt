@@ -1,5 +1,5 @@
--- A script that a program takes in stretches, as `replay` and `trace` do, is the whole script. It is proved as `held-as-played`.
--- Assumes nothing.
+-- A script that a program takes in stretches, as `replay` and `trace` do, is the whole script. It is proved as
+-- `held-as-played`. Assumes nothing.
 use Prim.Native.Nat.{ℕ, _+_, _*_}
 use mathlib.Core.Bool.{Bool, true, false}
 use mathlib.Core.Path.{_≡_}
@@ -18,7 +18,8 @@ pub data Held (states : Bool) : List ℕ → ℕ → List ℕ → Script → Typ
   -- nothing was read
   first : Held states [] 0 [] begun
   -- a stretch after whole records; its own last record may be cut off
-  more : {bs t : List ℕ} {n : ℕ} {c : Script} → Held states bs n t c → length bs ≡ n * 20 → (stretch before out : List ℕ) (r : Taken)
+  more : {bs t : List ℕ} {n : ℕ} {c : Script} → Held states bs n t c → length bs ≡ n * 20
+      → (stretch before out : List ℕ) (r : Taken)
       → Replayed states c stretch (taken states stretch before) before r out
       → Held states (bs ++ stretch) (n + r .records) (t ++ take (r .written) out) (r .script)
   -- an empty one, after the end of the input
@@ -27,7 +28,8 @@ pub data Held (states : Bool) : List ℕ → ℕ → List ℕ → Script → Typ
       → Held states bs (n + r .records) (t ++ take (r .written) out) (r .script)
 
 -- where there is room for k records, a stretch of k whole ones is taken whole: `replay` hands over 1,000, `trace` 40
-pub whole-taken : (states : Bool) (bs out : List ℕ) (k : ℕ) → length bs ≡ k * 20 → length out ≡ k * room states → taken states bs out ≡ k
+pub whole-taken : (states : Bool) (bs out : List ℕ) (k : ℕ) → length bs ≡ k * 20 → length out ≡ k * room states
+    → taken states bs out ≡ k
 whole-taken true bs out k e f = omega arith
 whole-taken false bs out k e f = omega arith
 

@@ -8,7 +8,7 @@ use lib.Dec.{ltb}
 use lib.ListN.{set, length-set}
 use lib.Seq.{getD-set-same, getD-set-other}
 use borrow.Author.Tests.{ltb-true}
-use Rattle.scan.specs.Booleans.{both}
+use Rattle.scans.specs.Booleans.{both}
 use Rattle.system.specs.Slots.{slot}
 use Rattle.policy.specs.declared.Account.{Account}
 use Rattle.policy.specs.declared.Scheduler.{Scheduler}

@@ -7,8 +7,8 @@ use mathlib.Core.Path.{_≡_, _∙_}
 use native.Mathlib.Omega.{arith}
 use lib.ListN.{length}
 use Rattle.service.specs.Service.{moreDeserving}
-use Rattle.scan.specs.Scan.{nobody, at}
-use Rattle.scan.specs.Booleans.{zero-one}
+use Rattle.scans.specs.Scan.{nobody, at}
+use Rattle.scans.specs.Booleans.{zero-one}
 use Rattle.system.specs.declared.System.{System}
 use Rattle.system.specs.Reads.{runtimeAt, pooled}
 use Rattle.system.specs.Slots.{Present}

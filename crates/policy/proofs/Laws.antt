@@ -8,11 +8,9 @@ pub use Rattle.policy.proofs.AccountPuts.{covers-below, put-same}
 pub use Rattle.policy.proofs.SettingLaws.{set-weighed, set-weight-either, set-weight-tabled, cleared, cleared-tabled}
 -- what a vCPU has that nothing was set for, and how it ranks
 pub use Rattle.policy.proofs.DefaultLaws.{ranks-at, new-account, new-tabled, defaults}
--- what accounting leaves
+-- what accounting leaves, and that it leaves all where nobody joined the pool or left it
 pub use Rattle.policy.proofs.RenewalLaws.{renew-same, accounted-renewal}
--- a turn of the search for the floor, and of an accounting
-pub use Rattle.policy.proofs.FloorLoop.{floorOf, floor-turned, floor-absent}
-pub use Rattle.policy.proofs.RenewalLoop.{renewed-at, renewed-unlifted, renews, outside-vcpus, outside-domains, renews-nothing}
+pub use Rattle.policy.proofs.RenewalLoop.{renews-nothing}
 -- what the code reads at a slot is the account there
 pub use Rattle.policy.proofs.AccountReads.{zeros, looked}
 -- a slot's vCPU id, tested against a count that is held at 8

@@ -3,6 +3,7 @@ mod Ids
 mod Lifts
 mod AccountReads
 mod ClearLoop
+mod JoinedLoop
 mod FloorLoop
 mod RenewalLoop
 mod AccountPuts

@@ -8,8 +8,8 @@ use native.Mathlib.Nat.{le-refl, div-le-self}
 use native.Mathlib.Decide.{ℕ-discrete}
 use lib.Dec.{ltb}
 use borrow.Author.Tests.{ltb-true, ltb-false, lt-ltb, le-ltb}
-use Rattle.scan.specs.Booleans.{both, all-two}
-use Rattle.scan.specs.Scan.{at}
+use Rattle.scans.specs.Booleans.{both, all-two}
+use Rattle.scans.specs.Scan.{at}
 use Rattle.service.specs.Service.{value}
 use Rattle.service.specs.Laws.{value-held}
 use Rattle.system.specs.declared.System.{System}
@@ -21,7 +21,7 @@ use Rattle.policy.specs.Accounts.{Tabled, covers, accountOf, usedWeight,
 use Rattle.policy.specs.Standing.{weightAt, serviceAt}
 use Rattle.policy.specs.Accounting.{floor, lifted, renewed, renewFirst, accounted}
 use Rattle.policy.specs.Settings.{SamePolicy}
-use Rattle.policy.specs.Renewal.{HasAccount, Joined, Unlifted, boost-off, no-floor, not-joined, Renewal}
+use Rattle.policy.specs.Renewal.{HasAccount, Joined, Unlifted, boost-off, no-floor, not-joined, Renewal, AccountingLeaves}
 use Rattle.policy.proofs.AccountPuts.{same-covers, put-same, put-here, put-outside, put-there}
 
 pub renew-same : (s : System) (π : Scheduler) (now k : ℕ) → SamePolicy π (renewFirst s π now k)
@@ -175,9 +175,9 @@ module _ (s : System) (π : Scheduler) (L : Tabled π) (now : ℕ) where
         go true e u = ap value (stays u (had-account e))
         go false e u = refl
 
-    pub accounted-renewal : Renewal s π now i (accounted s π now)
+    renewal : Renewal s π now i (accounted s π now)
     unfolding accounted renewed
-    accounted-renewal =
+    renewal =
         record {
           renewed = is-renewed;
           kept = is-kept;
@@ -187,3 +187,6 @@ module _ (s : System) (π : Scheduler) (L : Tabled π) (now : ℕ) where
           lifted = is-lifted;
           unlifted = is-unlifted;
         }
+
+pub accounted-renewal : AccountingLeaves
+accounted-renewal = renewal

@@ -8,18 +8,18 @@ use lib.Dec.{ltb}
 use lib.ListN.{getD, set}
 use lib.Seq.{set-getD}
 use borrow.Author.Tests.{ltb-true, lt-ltb, le-ltb}
-use Rattle.scan.specs.Booleans.{zero-one}
+use Rattle.scans.specs.Booleans.{zero-one}
 use Rattle.service.specs.Service.{held}
 use Rattle.system.specs.declared.System.{System}
 use Rattle.system.specs.Reads.{vcpuAt, pooled}
 use Rattle.system.specs.Slots.{slot, slots, present}
 use Rattle.policy.specs.declared.Account.{Account}
-use Rattle.policy.specs.declared.Standing.{Standing}
+use Rattle.policy.specs.declared.Share.{Share}
 use Rattle.policy.specs.declared.Scheduler.{Scheduler}
 use Rattle.policy.specs.Accounts.{Tabled, plain, covers, accountOf, withAccounts, putAccount}
 use Rattle.policy.specs.Standing.{weightAt, serviceAt}
 use Rattle.policy.specs.Accounting.{floor, lift, lifted, renewed, renewFirst, accounted}
-use Rattle.policy.specs.Elements.{Leads, none, one, liftedTo, renewedAt}
+use Rattle.policy.specs.OneAccount.{ShareOf, none, one, liftedTo, renewedAt}
 use Rattle.policy.proofs.Ids.{vcpu-below, vcpu-beyond}
 use Rattle.policy.proofs.AccountReads.{zeros, looked}
 use Rattle.policy.proofs.AccountPuts.{same-covers}
@@ -30,7 +30,7 @@ module _ (s : System) (π : Scheduler) (now i : ℕ) where
   account = accountOf π (i / 8) (i % 8)
 
   -- with the floor's service and weight, the code's account is the definition's
-  pub renewed-at : (f : Standing) → Leads s π now (floor s π now) f
+  pub renewed-at : (f : Share) → ShareOf s π now (floor s π now) f
       → renewedAt (vcpuAt s i) account f (π .«wake_boost») ≡ renewed s π now i
   unfolding renewed
   renewed-at f l =
@@ -43,7 +43,7 @@ module _ (s : System) (π : Scheduler) (now i : ℕ) where
       new : List ℕ
       new = liftedTo f (weightAt π i) ((vcpuAt s i) .runtime)
 
-      go : Leads s π now (floor s π now) f
+      go : ShareOf s π now (floor s π now) f
           → cond (f .found) new (account .offset) ≡ lifted s π now i (account .offset) (floor s π now)
       go (none e h) = ap (λ (t : Bool). cond t new (account .offset)) e ∙ sym (ap (lifted s π now i (account .offset)) h)
       go (one g h e v w) =
@@ -54,7 +54,7 @@ module _ (s : System) (π : Scheduler) (now i : ℕ) where
           ∙ sym (ap (lifted s π now i (account .offset)) h)))
 
   -- whoever did not join is not lifted, whatever the floor
-  pub renewed-unlifted : (f : Standing) → (π .«wake_boost» && (pooled s i && not (account .«was_schedulable»))) ≡ false
+  pub renewed-unlifted : (f : Share) → (π .«wake_boost» && (pooled s i && not (account .«was_schedulable»))) ≡ false
       → renewedAt (vcpuAt s i) account f (π .«wake_boost») ≡ renewed s π now i
   unfolding renewed
   renewed-unlifted f e = rw e
@@ -99,7 +99,7 @@ module _ (s : System) (π : Scheduler) (now i : ℕ) where
     same-boost = ap (λ (o : Scheduler). o .«wake_boost») e ∙ renew-same s π now i .boost
 
     -- what the code stores is the next policy
-    pub renews : Tabled π → i < 128 → (f : Standing)
+    pub renews : Tabled π → i < 128 → (f : Share)
         → (present s i ≡ true → getD (π .accounts) i zeros ≡ account → renewedAt (vcpuAt s i) account f (π .«wake_boost») ≡ renewed s π now i)
         → (r : Account) → r ≡ renewedAt (vcpuAt s i) (getD (q .accounts) i zeros) f (q .«wake_boost»)
         → i % 8 < min (s .«vcpus_per_domain») (π .«vcpus_per_domain») → i / 8 < q .«domain_count»

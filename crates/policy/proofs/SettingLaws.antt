@@ -13,7 +13,7 @@ use Rattle.policy.specs.declared.Account.{Account}
 use Rattle.policy.specs.declared.Scheduler.{Scheduler}
 use Rattle.policy.specs.Accounts.{Tabled, raised, blankAccount, plain, accountAt, covers, accountOf, usedWeight, weightOf}
 use Rattle.policy.specs.Accounts.{withWeight, setWeight, setWakeBoost, unboosted}
-use Rattle.policy.specs.Settings.{Weighed, Cleared}
+use Rattle.policy.specs.Settings.{Weighed, SetWeightLeaves, SetWakeBoostLeaves}
 use Rattle.policy.proofs.AccountPuts.{put-same, put-here, put-outside, put-there}
 
 -- ---- a weight set
@@ -37,9 +37,9 @@ module _ (π : Scheduler) (L : Tabled π) (d v w : ℕ) where
       go true c (no n) y = there (λ p. n (p .0))
       go true c (yes x) (no n) = there (λ p. n (p .1))
 
-  pub set-weighed : Weighed π d v w (setWeight π d v w)
+  weighed : Weighed π d v w (setWeight π d v w)
   unfolding setWeight
-  set-weighed =
+  weighed =
       record {
         ignored = put-outside π d v new;
         weight = λ c. let e = ap usedWeight (put-here π d v new L c) in omega arith;
@@ -56,13 +56,16 @@ module _ (π : Scheduler) (L : Tabled π) (d v w : ℕ) where
     where
       go : (b : Bool) → covers π d v ≡ b → Dec (e ≡ d) → Dec (u ≡ v)
           → (weightOf (setWeight π d v w) e u ≡ max w 1) ⊎ (weightOf (setWeight π d v w) e u ≡ weightOf π e u)
-      go false c x y = inr (ap (λ (ρ : Scheduler). weightOf ρ e u) (set-weighed .ignored c))
-      go true c (yes x) (yes y) = inl (rw (x, y) (set-weighed .weight c))
-      go true c (no n) y = inr (set-weighed .others e u (λ p. n (p .0)))
-      go true c (yes x) (no n) = inr (set-weighed .others e u (λ p. n (p .1)))
+      go false c x y = inr (ap (λ (ρ : Scheduler). weightOf ρ e u) (weighed .ignored c))
+      go true c (yes x) (yes y) = inl (rw (x, y) (weighed .weight c))
+      go true c (no n) y = inr (weighed .others e u (λ p. n (p .0)))
+      go true c (yes x) (no n) = inr (weighed .others e u (λ p. n (p .1)))
 
   pub set-weight-tabled : Tabled (setWeight π d v w)
-  set-weight-tabled = record { accounts = set-weighed .same .tabled ∙ L .accounts }
+  set-weight-tabled = record { accounts = weighed .same .tabled ∙ L .accounts }
+
+pub set-weighed : SetWeightLeaves
+set-weighed = weighed
 
 -- ---- offsets cleared
 
@@ -75,7 +78,7 @@ cleared-account π on d v = go (covers π d v)
     go true = List·getD-map unboosted (π .accounts) (slot d v) blankAccount
     go false = refl
 
-pub cleared : (π : Scheduler) (on : Bool) → Cleared π on (setWakeBoost π on)
+pub cleared : SetWakeBoostLeaves
 unfolding setWakeBoost value
 cleared π on =
     record {

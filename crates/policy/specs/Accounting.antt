@@ -6,7 +6,7 @@ use Rattle.service.specs.Service.{held}
 use Rattle.system.specs.declared.System.{System}
 use Rattle.system.specs.Reads.{vcpuAt, pooled}
 use Rattle.system.specs.Slots.{slots, present}
-use Rattle.scan.specs.Scan.{Pick, nobody, at, scan}
+use Rattle.scans.specs.Scan.{Pick, nobody, at, scan}
 use Rattle.policy.specs.declared.Account.{Account}
 use Rattle.policy.specs.declared.Scheduler.{Scheduler}
 use Rattle.policy.specs.Accounts.{accountOf, wasSchedulable, putAccount}

@@ -10,7 +10,7 @@ use lib.Dec.{ltb}
 use borrow.Author.Tests.{ltb-true, ltb-false, lt-ltb, le-ltb}
 use Rattle.service.specs.Laws.{deserving-exact, deserving-irrefl}
 use Rattle.service.specs.Fractions.{before-trans, after-trans}
-use Rattle.scan.specs.Scan.{Ranks}
+use Rattle.scans.specs.Scan.{Ranks}
 use Rattle.system.specs.declared.System.{System}
 use Rattle.policy.specs.declared.Scheduler.{Scheduler}
 use Rattle.policy.specs.Standing.{weightAt, serviceAt, deserves}

@@ -4,8 +4,8 @@ use Prim.Native.Nat.{ℕ, _*_, _/_, _%_, _≤_, _<_}
 use mathlib.Core.Bool.{Bool, true, _&&_}
 use mathlib.Core.Path.{_≡_, refl}
 use native.Mathlib.Nat.{le-refl}
-use Rattle.scan.specs.Booleans.{both, all-two}
-use Rattle.scan.specs.Scan.{Pick, nobody, at, scan-sound, scan-complete, scan-least, scan-earliest}
+use Rattle.scans.specs.Booleans.{both, all-two}
+use Rattle.scans.specs.Scan.{Pick, nobody, at, scan-sound, scan-complete, scan-least, scan-earliest}
 use Rattle.system.specs.declared.System.{System}
 use Rattle.system.specs.Reads.{pooled}
 use Rattle.system.specs.Slots.{Present, slots, present, is-present, present-is}

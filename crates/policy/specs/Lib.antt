@@ -8,4 +8,4 @@ pub mod FloorLaws
 pub mod Settings
 pub mod Defaults
 pub mod Renewal
-pub mod Elements
+pub mod OneAccount

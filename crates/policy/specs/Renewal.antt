@@ -1,17 +1,17 @@
--- What accounting leaves of each account. Proved in proofs/RenewalLaws, as `accounted-renewal`.
+-- What accounting leaves of each account: the statement `AccountingLeaves`, proved in proofs/RenewalLaws as `accounted-renewal`.
 use Prim.Native.Nat.{ℕ, _-_, _*_, _/_, _%_, _^_, min}
 use mathlib.Core.Bool.{true, false}
 use mathlib.Core.Path.{_≡_}
-use Rattle.scan.specs.Scan.{nobody, at}
+use Rattle.scans.specs.Scan.{nobody, at}
 use Rattle.system.specs.declared.System.{System}
 use Rattle.system.specs.Reads.{runtimeAt, pooled}
 use Rattle.system.specs.Slots.{Present}
 use Rattle.policy.specs.declared.Scheduler.{Scheduler}
-use Rattle.policy.specs.Accounts.{covers, accountOf, offsetOf, wasSchedulable}
+use Rattle.policy.specs.Accounts.{Tabled, covers, accountOf, offsetOf, wasSchedulable}
 use Rattle.policy.specs.Standing.{weightAt, serviceAt}
 use Rattle.policy.specs.Settings.{SamePolicy}
 use Rattle.policy.specs.Accounting as accounting
-use Rattle.policy.specs.Accounting.{floor}
+use Rattle.policy.specs.Accounting.{floor, accounted}
 
 -- slot i has a vCPU, and the policy's shape covers it
 pub record HasAccount (s : System) (π : Scheduler) (i : ℕ) : Type 0 where
@@ -46,3 +46,7 @@ pub record Renewal (s : System) (π : Scheduler) (now i : ℕ) (ρ : Scheduler) 
       → offsetOf ρ (i / 8) (i % 8) ≡ min (serviceAt s π now f * weightAt π i) (2 ^ 128 - 1) / weightAt π f - runtimeAt s i
   -- else it is as it was
   pub unlifted : Unlifted s π now i → offsetOf ρ (i / 8) (i % 8) ≡ offsetOf π (i / 8) (i % 8)
+
+-- of every system, every policy of 128 accounts and every clock, at every slot
+abbrev pub AccountingLeaves : Type 0
+AccountingLeaves = (s : System) (π : Scheduler) → Tabled π → (now i : ℕ) → Renewal s π now i (accounted s π now)

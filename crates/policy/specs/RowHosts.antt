@@ -3,7 +3,7 @@ use Prim.Native.Nat.{ℕ}
 use mathlib.Core.Bool.{true, false}
 use mathlib.Core.List.{List, [], _∷_}
 use Rattle.rows.specs.Rows.{test}
-use Rattle.scan.specs.Scan.{Pick, nobody, at}
+use Rattle.scans.specs.Scan.{Pick, nobody, at}
 use Rattle.service.specs.Service.{held}
 use Rattle.system.specs.declared.RunState.{RunState}
 use Rattle.system.specs.declared.RunState.the-variants.{Offline, Runnable, Running, Blocked}

@@ -4,18 +4,18 @@ use mathlib.Core.Bool.{true, false}
 use mathlib.Core.Path.{refl}
 use mathlib.Core.List.{List, [], _∷_, _++_}
 use Rattle.rows.specs.Rows.{Row, row, rows, test, AllDue}
-use Rattle.scan.specs.Scan.{scan}
+use Rattle.scans.specs.Scan.{scan}
 use Rattle.service.specs.Service.{value, limbs, held, moreDeserving}
 use Rattle.system.specs.Records.{inFlight}
 use Rattle.system.specs.Reads.{vcpuAt}
 use Rattle.system.specs.Shape.{fresh}
 use Rattle.system.specs.Writes.{putVcpu}
 use Rattle.policy.specs.declared.Account.{Account}
-use Rattle.policy.specs.declared.Standing.{Standing}
+use Rattle.policy.specs.declared.Share.{Share}
 use Rattle.policy.specs.Accounts.{accountAt, accountOf, putAccount, freshPolicy, weighed, setWeight, setWakeBoost, builtPolicy}
 use Rattle.policy.specs.Standing.{serviceBy, deserves}
 use Rattle.policy.specs.Accounting.{floor, renewed, renewFirst, accounted}
-use Rattle.policy.specs.Elements.{leader, renewedAt}
+use Rattle.policy.specs.OneAccount.{leader, renewedAt}
 use Rattle.policy.specs.RowHosts.{waits, runs, blocked, offline, pair, pooled, away, policy, unlifting, shaped}
 use Rattle.policy.specs.RowHosts.{service, first, sets, looks, offset, snapshots}
 
@@ -190,14 +190,14 @@ built =
     ∷ []
 
 -- nobody leads, and one of that service and weight does
-abbrev unled : Standing
+abbrev unled : Share
 unled = record { found = false; service = held 0; weight = 1 }
 
-abbrev led : ℕ → ℕ → Standing
+abbrev led : ℕ → ℕ → Share
 led service weight = record { found = true; service = held service; weight = weight }
 
 -- whether one leads, its service and its weight
-abbrev leads : Standing → List ℕ
+abbrev leads : Share → List ℕ
 leads l = test (l .found) ∷ value (l .service) ∷ l .weight ∷ []
 
 -- an account's weight, offset and snapshot

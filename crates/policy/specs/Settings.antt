@@ -1,10 +1,11 @@
--- What `set_weight` and `set_wake_boost` leave of a policy. Proved in proofs/SettingLaws, as `set-weighed` and `cleared`.
+-- What `set_weight` and `set_wake_boost` leave of a policy: the statements `SetWeightLeaves` and `SetWakeBoostLeaves`, proved in
+-- proofs/SettingLaws as `set-weighed` and `cleared`.
 use Prim.Native.Nat.{ℕ, max}
 use mathlib.Core.Bool.{Bool, true, false}
 use mathlib.Core.Path.{_≡_}
 use lib.ListN.{length}
 use Rattle.policy.specs.declared.Scheduler.{Scheduler}
-use Rattle.policy.specs.Accounts.{covers, weightOf, offsetOf, wasSchedulable}
+use Rattle.policy.specs.Accounts.{Tabled, covers, weightOf, offsetOf, wasSchedulable, setWeight, setWakeBoost}
 
 -- ρ is π but for its accounts
 pub record SamePolicy (π ρ : Scheduler) : Type 0 where
@@ -26,6 +27,10 @@ pub record Weighed (π : Scheduler) (d v w : ℕ) (ρ : Scheduler) : Type 0 wher
   pub snapshot : (e u : ℕ) → wasSchedulable ρ e u ≡ wasSchedulable π e u
   pub same : SamePolicy π ρ
 
+-- of every policy of 128 accounts, for ids and a weight of any size
+abbrev pub SetWeightLeaves : Type 0
+SetWeightLeaves = (π : Scheduler) → Tabled π → (d v w : ℕ) → Weighed π d v w (setWeight π d v w)
+
 -- after `set_wake_boost`
 pub record Cleared (π : Scheduler) (on : Bool) (ρ : Scheduler) : Type 0 where
   pub boost : ρ .«wake_boost» ≡ on
@@ -38,3 +43,7 @@ pub record Cleared (π : Scheduler) (on : Bool) (ρ : Scheduler) : Type 0 where
   pub domains : ρ .«domain_count» ≡ π .«domain_count»
   pub vcpus : ρ .«vcpus_per_domain» ≡ π .«vcpus_per_domain»
   pub quantum : ρ .quantum ≡ π .quantum
+
+-- of every policy
+abbrev pub SetWakeBoostLeaves : Type 0
+SetWakeBoostLeaves = (π : Scheduler) (on : Bool) → Cleared π on (setWakeBoost π on)

@@ -7,11 +7,13 @@ ghost use Rattle.system.specs.States.{schedulable};
 ghost use Rattle.policy.specs.Accounts.{raised, lookedUp, usedWeight, weighed, weightOf, setWeight, setWakeBoost};
 ghost use Rattle.policy.specs.Accounts.{freshPolicy, policyOutcome, builtPolicy};
 ghost use Rattle.policy.specs.Standing.{serviceOf};
-ghost use Rattle.policy.specs.Elements.{undercuts, leader, liftedTo, renewedAt};
+ghost use Rattle.policy.specs.Accounting.{accounted};
+ghost use Rattle.policy.specs.OneAccount.{undercuts, leader, liftedTo, renewedAt};
 use service::Service;
 use system::Answer;
 use system::DomId;
 use system::RunState;
+use system::System;
 use system::Ticks;
 use system::Vcpu;
 use system::VirtualCpu;
@@ -149,15 +151,15 @@ fn is_schedulable(v: VirtualCpu) -> bool
 
 // ---- accounting
 
-/// Who leads the scan for the floor so far.
-pub struct Standing {
-    pub found: bool,
-    pub service: [u32; 4],
-    pub weight: Weight,
+// The service and weight of whoever leads the scan for the floor so far.
+struct Share {
+    found: bool,
+    service: [u32; 4],
+    weight: Weight,
 }
 
-impl Standing {
-    pub const NOBODY: Standing = Standing {
+impl Share {
+    const NOBODY: Share = Share {
         found: false,
         service: [0; 4],
         weight: MIN_WEIGHT,
@@ -165,7 +167,7 @@ impl Standing {
 }
 
 // Whether a service at a weight comes before the floor so far: strict, so that the earliest leads.
-fn undercuts(best: Standing, service: [u32; 4], weight: Weight) -> bool
+fn undercuts(best: Share, service: [u32; 4], weight: Weight) -> bool
     ensures { λ r. ⌜ r ≡ undercuts best (value service) weight ⌝ }
 {
     let t = best.service;
@@ -176,8 +178,8 @@ fn undercuts(best: Standing, service: [u32; 4], weight: Weight) -> bool
     }
 }
 
-/// Who leads once a vCPU was compared: only one in the pool now and at the last snapshot can.
-pub fn leader(best: Standing, v: VirtualCpu, a: Account, now: Ticks) -> Standing
+// Who leads once a vCPU was compared: only one in the pool now and at the last snapshot can.
+fn leader(best: Share, v: VirtualCpu, a: Account, now: Ticks) -> Share
     ensures { λ r. ⌜ r ≡ leader best v a now ⌝ }
 {
     let stayed = a.was_schedulable;
@@ -186,7 +188,7 @@ pub fn leader(best: Standing, v: VirtualCpu, a: Account, now: Ticks) -> Standing
             let service = service_of(v, a, now);
             let weight = used_weight(a);
             if undercuts(best, service, weight) {
-                return Standing {
+                return Share {
                     found: true,
                     service,
                     weight,
@@ -199,7 +201,7 @@ pub fn leader(best: Standing, v: VirtualCpu, a: Account, now: Ticks) -> Standing
 
 // The offset that places a vCPU at the floor: what the floor's service is worth at the vCPU's weight,
 // less what it ran.
-fn lifted(f: Standing, weight: Weight, runtime: Ticks) -> [u32; 4]
+fn lifted(f: Share, weight: Weight, runtime: Ticks) -> [u32; 4]
     ensures { λ r. ⌜ r ≡ liftedTo f weight runtime ⌝ }
 {
     let base = f.service;
@@ -207,8 +209,8 @@ fn lifted(f: Standing, weight: Weight, runtime: Ticks) -> [u32; 4]
     service::difference(worth, service::from_u64(runtime))
 }
 
-/// A vCPU's account, renewed: one that joined the pool is placed at the floor, if there is one.
-pub fn renewed(v: VirtualCpu, a: Account, f: Standing, wake_boost: bool) -> Account
+// A vCPU's account, renewed: one that joined the pool is placed at the floor, if there is one.
+fn renewed(v: VirtualCpu, a: Account, f: Share, wake_boost: bool) -> Account
     ensures { λ r. ⌜ r ≡ renewedAt v a f «wake_boost» ⌝ }
 {
     let stands = is_schedulable(v);
@@ -227,6 +229,53 @@ pub fn renewed(v: VirtualCpu, a: Account, f: Standing, wake_boost: bool) -> Acco
         offset,
         was_schedulable: stands,
     }
+}
+
+/// The policy after an accounting: whoever joined the pool is placed at the floor of those that
+/// stayed in it, and the snapshot is renewed.
+// Whoever owns the records holds the loops over them: handed to a function, they would be copied.
+pub fn accounted(s: System, mut p: Scheduler, now: Ticks) -> Scheduler
+    ensures { λ r. ⌜ r ≡ accounted s p now ⌝ }
+{
+    let n = least(s.domain_count, system::MAX_DOMAINS) * 8;
+    let k = s.vcpus_per_domain;
+    // Whether anybody joined: a look at flags, much cheaper than the search for the floor.
+    let mut some = false;
+    let mut i: usize = 0;
+    while i < n {
+        if i % 8 < k {
+            let v = s.vcpus[i];
+            let a = p.accounts[i];
+            some = (is_schedulable(v) & !a.was_schedulable) | some;
+        }
+        i += 1;
+    }
+    // The floor is that of the old snapshot, and is looked for only where somebody is placed at it.
+    let mut best = Share::NOBODY;
+    if some & p.wake_boost {
+        let mut j: usize = 0;
+        while j < n {
+            if j % 8 < k {
+                let v = s.vcpus[j];
+                let a = looked_up(p.domain_count, p.vcpus_per_domain, j, p.accounts[j]);
+                best = leader(best, v, a, now);
+            }
+            j += 1;
+        }
+    }
+    let h = least(k, p.vcpus_per_domain);
+    let mut l: usize = 0;
+    while l < n {
+        if l % 8 < h {
+            if l / 8 < p.domain_count {
+                let v = s.vcpus[l];
+                let a = p.accounts[l];
+                p.accounts[l] = renewed(v, a, best, p.wake_boost);
+            }
+        }
+        l += 1;
+    }
+    p
 }
 
 // ---- the policy's own calls

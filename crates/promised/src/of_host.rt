@@ -1,7 +1,7 @@
 //! A host as built, and each of its calls.
 
 ghost use Rattle.page.specs.Steps.{Hands, step, build};
-use host::Call;
+use calls::Call;
 use host::Host;
 use host::Outcome;
 use system::Ticks;

@@ -1,12 +1,14 @@
-//! A policy as built, its look-ups and its calls.
+//! A policy as built, its look-ups and its calls, and an accounting.
 
 ghost use mathlib.Core.Path.{_≡_};
+ghost use Rattle.page.specs.Accounting.{accounted};
 ghost use Rattle.page.specs.Policy.{weight, setWeight, setWakeBoost, newPolicyTold};
 ghost use Rattle.page.specs.Handed.{HandsPolicy};
 use policy::Adjusted;
 use policy::Scheduler;
 use policy::Weight;
 use system::DomId;
+use system::System;
 use system::Ticks;
 use system::Vcpu;
 
@@ -38,4 +40,10 @@ pub fn set_wake_boost(p: Scheduler, enabled: bool) -> Scheduler
     ensures { λ r. ⌜ r ≡ setWakeBoost p enabled ⌝ }
 {
     p.set_wake_boost(enabled)
+}
+
+pub fn accounted(s: System, p: Scheduler, now: Ticks) -> Scheduler
+    ensures { λ r. ⌜ r ≡ accounted s p now ⌝ }
+{
+    policy::accounted(s, p, now)
 }

@@ -15,8 +15,8 @@ use system::MaybeU64;
 use system::MaybeVcpu;
 use system::Occupant;
 use system::Pcpu;
-use system::Stepped;
 use system::System;
+use system::Transitioned;
 use system::Vcpu;
 
 pub fn number_of(answer: Answer) -> u64
@@ -31,7 +31,7 @@ pub fn slot_read(dom: DomId, vcpu: Vcpu) -> usize
     system::slot_read(dom, vcpu)
 }
 
-pub fn new(num_domains: usize, vcpus_per_domain: usize, num_pcpus: usize) -> Stepped
+pub fn new(num_domains: usize, vcpus_per_domain: usize, num_pcpus: usize) -> Transitioned
     ensures { λ r. ⌜ HandsSystem r (newSystemTold «num_domains» «vcpus_per_domain» «num_pcpus») ⌝ }
 {
     System::new(num_domains, vcpus_per_domain, num_pcpus)

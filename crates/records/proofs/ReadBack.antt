@@ -10,9 +10,8 @@ use borrow.Author.Tests.{le-ltb}
 use Rattle.big_endian.specs.Numbers.{bytes, number}
 use Rattle.big_endian.specs.Laws.{length-bytes, number-exact}
 use Rattle.records.specs.declared.Record.{Record}
-use Rattle.records.specs.declared.Plan.{Plan}
 use Rattle.records.specs.Records.{recordOf, planned, planOf}
-use Rattle.records.specs.Bytes.{Fits, recordBytes}
+use Rattle.records.specs.Bytes.{FitsRecord, recordBytes}
 
 pub record-length : (r : Record) → length (recordBytes r) ≡ 20
 record-length r = simp (length-append, length-bytes)
@@ -24,7 +23,7 @@ behind s n x t at e l =
     (λ i h. rw (← e) (getD-append-add s (bytes n x ++ t) i 0 ∙ List·getD-append (bytes n x) t 0 i (omega (arith, length-bytes n x))))
 
 -- whatever follows it
-pub read-back : (r : Record) → Fits r → (cs : List ℕ) → recordOf (recordBytes r ++ cs) ≡ r
+pub read-back : (r : Record) → FitsRecord r → (cs : List ℕ) → recordOf (recordBytes r ++ cs) ≡ r
 read-back r fits cs =
     let k = bytes 2 (r .kind) in
     let d = bytes 2 (r .dom) in
@@ -39,7 +38,7 @@ read-back r fits cs =
     simp append-assoc
     (rw (kind, dom, simp append-assoc at vcpu, simp append-assoc at third, simp append-assoc at value))
 
-pub plan-back : (b : Bool) (r : Record) → Fits r → (cs : List ℕ) → planOf b (recordBytes r ++ cs) ≡ planned b r
+pub plan-back : (b : Bool) (r : Record) → FitsRecord r → (cs : List ℕ) → planOf b (recordBytes r ++ cs) ≡ planned b r
 unfolding planOf
 plan-back b r fits cs =
     rw (le-ltb (length (recordBytes r ++ cs)) 20 (omega (arith, length-append (recordBytes r) cs, record-length r)))

@@ -16,7 +16,7 @@ abbrev pub recordBytes : Record → List ℕ
 recordBytes r = bytesOf (r .kind) (r .dom) (r .vcpu) (r .third) (r .value)
 
 -- each field is a number of so many bytes
-pub record Fits (r : Record) : Type 0 where
+pub record FitsRecord (r : Record) : Type 0 where
   pub kind : r .kind < 2 ^ 16
   pub dom : r .dom < 2 ^ 16
   pub vcpu : r .vcpu < 2 ^ 32

@@ -7,7 +7,8 @@ use lib.ListN.{length, getD}
 use Rattle.big_endian.specs.Numbers.{number}
 use Rattle.system.specs.declared.Answer.the-variants.{TooLarge, BadScript}
 use Rattle.system.specs.Shape.{withinSizes}
-use Rattle.host.specs.declared.Call.{Call}
+use Rattle.calls.specs.declared.Call.{Call}
+use Rattle.calls.specs.declared.Request.{Request}
 use Rattle.records.specs.declared.Record.{Record}
 use Rattle.records.specs.declared.MaybeCall.{MaybeCall}
 use Rattle.records.specs.declared.Shape.{Shape}
@@ -24,17 +25,21 @@ cutOff = record { kind = 65535; dom = 0; vcpu = 0; third = 0; value = 0 }
 unfoldable pub recordAt : List ℕ → Record
 recordAt bs = cond (leb 20 (length bs)) (recordOf bs) cutOff
 
+-- a call that asks something of one vCPU
+abbrev pub asked : ℕ → ℕ → Request → MaybeCall
+asked d v q = MaybeCall.Some (Call.Ask d v q)
+
 -- the calls by their kinds, from 0 on; kind 0 calls no host, it builds one
 abbrev pub callsOf : Record → List MaybeCall
 callsOf r =
     MaybeCall.None
-    ∷ MaybeCall.Some (Call.Admit (r .dom) (r .vcpu))
-    ∷ MaybeCall.Some (Call.Run (r .dom) (r .vcpu) (r .third) (r .value))
-    ∷ MaybeCall.Some (Call.Preempt (r .dom) (r .vcpu) (r .value))
-    ∷ MaybeCall.Some (Call.Block (r .dom) (r .vcpu) (r .value))
-    ∷ MaybeCall.Some (Call.Wake (r .dom) (r .vcpu))
-    ∷ MaybeCall.Some (Call.Offline (r .dom) (r .vcpu) (r .value))
-    ∷ MaybeCall.Some (Call.SetAffinity (r .dom) (r .vcpu) (r .value))
+    ∷ asked (r .dom) (r .vcpu) Request.Admit
+    ∷ asked (r .dom) (r .vcpu) (Request.Run (r .third) (r .value))
+    ∷ asked (r .dom) (r .vcpu) (Request.Preempt (r .value))
+    ∷ asked (r .dom) (r .vcpu) (Request.Block (r .value))
+    ∷ asked (r .dom) (r .vcpu) Request.Wake
+    ∷ asked (r .dom) (r .vcpu) (Request.Offline (r .value))
+    ∷ asked (r .dom) (r .vcpu) (Request.SetAffinity (r .value))
     ∷ MaybeCall.Some (Call.SetWeight (r .dom) (r .vcpu) (r .third))
     ∷ MaybeCall.Some (Call.Advance (r .value))
     ∷ MaybeCall.Some (Call.SetWakeBoost (not (eqb (r .value) 0)))

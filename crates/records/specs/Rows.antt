@@ -5,7 +5,8 @@ use mathlib.Core.Path.{_≡_, refl}
 use mathlib.Core.List.{List, [], _∷_, _++_, map}
 use lib.ListN.{take, replicate}
 use Rattle.system.specs.declared.Answer.the-variants.{TooLarge, BadScript}
-use Rattle.host.specs.declared.Call.{Call}
+use Rattle.calls.specs.declared.Call.{Call}
+use Rattle.calls.specs.declared.Request.{Request}
 use Rattle.records.specs.declared.Plan.{Plan}
 use Rattle.big_endian.specs.Numbers.{bytes, number}
 use Rattle.rows.specs.Rows.{Row, rows, AllDue}
@@ -50,13 +51,13 @@ built d v p q = Plan.Build (record { «num_domains» = d; «vcpus_per_domain» =
 abbrev pub table : List PlanRow
 table =
     -- each kind, with the fields that it has
-    row (ofKind 1) (Plan.Call (Call.Admit dom vcpu))
-    ∷ row (ofKind 2) (Plan.Call (Call.Run dom vcpu third value))
-    ∷ row (ofKind 3) (Plan.Call (Call.Preempt dom vcpu value))
-    ∷ row (ofKind 4) (Plan.Call (Call.Block dom vcpu value))
-    ∷ row (ofKind 5) (Plan.Call (Call.Wake dom vcpu))
-    ∷ row (ofKind 6) (Plan.Call (Call.Offline dom vcpu value))
-    ∷ row (ofKind 7) (Plan.Call (Call.SetAffinity dom vcpu value))
+    row (ofKind 1) (Plan.Call (Call.Ask dom vcpu Request.Admit))
+    ∷ row (ofKind 2) (Plan.Call (Call.Ask dom vcpu (Request.Run third value)))
+    ∷ row (ofKind 3) (Plan.Call (Call.Ask dom vcpu (Request.Preempt value)))
+    ∷ row (ofKind 4) (Plan.Call (Call.Ask dom vcpu (Request.Block value)))
+    ∷ row (ofKind 5) (Plan.Call (Call.Ask dom vcpu Request.Wake))
+    ∷ row (ofKind 6) (Plan.Call (Call.Ask dom vcpu (Request.Offline value)))
+    ∷ row (ofKind 7) (Plan.Call (Call.Ask dom vcpu (Request.SetAffinity value)))
     ∷ row (ofKind 8) (Plan.Call (Call.SetWeight dom vcpu third))
     ∷ row (ofKind 9) (Plan.Call (Call.Advance value))
     -- boost: value 0 is off, any other on, whatever the other fields are
@@ -82,7 +83,7 @@ table =
     -- 1 byte, 19 bytes, and 20 before others
     ∷ row (planOf true (take 1 (distinct 1))) (Plan.Refuse BadScript)
     ∷ row (planOf true (take 19 (distinct 1))) (Plan.Refuse BadScript)
-    ∷ row (planOf true (distinct 1 ++ distinct 2)) (Plan.Call (Call.Admit dom vcpu))
+    ∷ row (planOf true (distinct 1 ++ distinct 2)) (Plan.Call (Call.Ask dom vcpu Request.Admit))
     ∷ []
 
 pub table-due : map (λ (r : PlanRow). r .given) table ≡ map (λ (r : PlanRow). r .due) table

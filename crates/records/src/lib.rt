@@ -1,13 +1,19 @@
 //! A script's record: what its 20 bytes say, and what the script does of it.
 
 ghost use mathlib.Core.Path.{_≡_};
-ghost use Prim.Native.Nat.{_+_, _^_, _≤_, _<_};
+ghost use Prim.Native.Nat.{_+_, _≤_};
 ghost use lib.ListN.{length};
 ghost use lib.Seq.{sets};
-ghost use Rattle.big_endian.specs.Numbers.{bytes, number};
+ghost use Rattle.big_endian.specs.Numbers.{bytes};
 ghost use Rattle.records.specs.Bytes.{putRecord};
-ghost use Rattle.records.specs.Records.{recordOf, recordAt, callOf, buildOf, afterBuild, planOf};
-use host::Call;
+ghost use Rattle.records.specs.Records.{recordOf, recordAt, asked, callOf, buildOf, afterBuild, planOf};
+use big_endian::double;
+use big_endian::half;
+use big_endian::half_bytes;
+use big_endian::word;
+use big_endian::word_bytes;
+use calls::Call;
+use calls::Request;
 use system::Answer;
 
 /// The bytes of a record.
@@ -43,38 +49,24 @@ pub enum Plan {
     Call(Call),
 }
 
-fn wide(b: u8) -> u64
-    ensures { λ r. ⌜ r ≡ b ⌝ }
-    ensures { λ r. ⌜ r < 256 ⌝ }
-{
-    b as u64
-}
-
-fn half(bytes: &[u8], at: usize) -> u64
-    requires { ⌜ at + 2 ≤ length (now bytes) ⌝ }
-    ensures { λ r. ⌜ r ≡ number (now (bytes .entry)) at 2 ⌝ }
-    ensures { λ r. ⌜ r < 2 ^ 16 ⌝ }
-{
-    wide(bytes[at]) * 0x100 + wide(bytes[at + 1])
-}
-
-fn word(bytes: &[u8], at: usize) -> u64
-    requires { ⌜ at + 4 ≤ length (now bytes) ⌝ }
-    ensures { λ r. ⌜ r ≡ number (now (bytes .entry)) at 4 ⌝ }
-    ensures { λ r. ⌜ r < 2 ^ 32 ⌝ }
-{
-    half(bytes, at) * 0x1_0000 + half(bytes, at + 2)
-}
-
 fn record_of(bytes: &[u8]) -> Record
     requires { ⌜ 20 ≤ length (now bytes) ⌝ }
     ensures { λ r. ⌜ r ≡ recordOf (now (bytes .entry)) ⌝ }
 {
-    let kind = half(bytes, 0) as u16;
-    let dom = half(bytes, 2) as u16;
-    let vcpu = word(bytes, 4) as u32;
-    let third = word(bytes, 8) as u32;
-    let value = word(bytes, 12) * 0x1_0000_0000 + word(bytes, 16);
+    let kind = half(bytes[0], bytes[1]);
+    let dom = half(bytes[2], bytes[3]);
+    let vcpu = word(bytes[4], bytes[5], bytes[6], bytes[7]);
+    let third = word(bytes[8], bytes[9], bytes[10], bytes[11]);
+    let value = double(
+        bytes[12],
+        bytes[13],
+        bytes[14],
+        bytes[15],
+        bytes[16],
+        bytes[17],
+        bytes[18],
+        bytes[19],
+    );
     Record {
         kind,
         dom,
@@ -101,6 +93,13 @@ pub fn record_at(bytes: &[u8]) -> Record
     record_of(bytes)
 }
 
+// A call that asks something of one vCPU.
+fn asked(dom: u16, vcpu: u32, request: Request) -> MaybeCall
+    ensures { λ c. ⌜ c ≡ asked dom vcpu request ⌝ }
+{
+    MaybeCall::Some(Call::Ask { dom, vcpu, request })
+}
+
 fn call_of(r: Record) -> MaybeCall
     ensures { λ c. ⌜ c ≡ callOf r ⌝ }
 {
@@ -113,18 +112,13 @@ fn call_of(r: Record) -> MaybeCall
     let mask = r.value;
     let kind = r.kind;
     match kind {
-        1 => MaybeCall::Some(Call::Admit { dom, vcpu }),
-        2 => MaybeCall::Some(Call::Run {
-            dom,
-            vcpu,
-            pcpu,
-            now,
-        }),
-        3 => MaybeCall::Some(Call::Preempt { dom, vcpu, now }),
-        4 => MaybeCall::Some(Call::Block { dom, vcpu, now }),
-        5 => MaybeCall::Some(Call::Wake { dom, vcpu }),
-        6 => MaybeCall::Some(Call::Offline { dom, vcpu, now }),
-        7 => MaybeCall::Some(Call::SetAffinity { dom, vcpu, mask }),
+        1 => asked(dom, vcpu, Request::Admit),
+        2 => asked(dom, vcpu, Request::Run { pcpu, now }),
+        3 => asked(dom, vcpu, Request::Preempt { now }),
+        4 => asked(dom, vcpu, Request::Block { now }),
+        5 => asked(dom, vcpu, Request::Wake),
+        6 => asked(dom, vcpu, Request::Offline { now }),
+        7 => asked(dom, vcpu, Request::SetAffinity { mask }),
         8 => MaybeCall::Some(Call::SetWeight { dom, vcpu, weight }),
         9 => MaybeCall::Some(Call::Advance { now }),
         10 => MaybeCall::Some(Call::SetWakeBoost { enabled: now != 0 }),
@@ -187,18 +181,20 @@ fn put_half(out: &mut [u8], at: usize, n: u16)
     requires { ⌜ at + 2 ≤ length (now out) ⌝ }
     ensures { λ _. ⌜ now (out .exit) ≡ sets (now (out .entry)) at (bytes 2 n) ⌝ }
 {
-    out[at] = (n / 0x100) as u8;
-    out[at + 1] = (n % 0x100) as u8;
+    let h = half_bytes(n);
+    out[at] = h[0];
+    out[at + 1] = h[1];
 }
 
 fn put_word(out: &mut [u8], at: usize, n: u32)
     requires { ⌜ at + 4 ≤ length (now out) ⌝ }
     ensures { λ _. ⌜ now (out .exit) ≡ sets (now (out .entry)) at (bytes 4 n) ⌝ }
 {
-    out[at] = (n / 0x100_0000) as u8;
-    out[at + 1] = (n / 0x1_0000 % 0x100) as u8;
-    out[at + 2] = (n / 0x100 % 0x100) as u8;
-    out[at + 3] = (n % 0x100) as u8;
+    let w = word_bytes(n);
+    out[at] = w[0];
+    out[at + 1] = w[1];
+    out[at + 2] = w[2];
+    out[at + 3] = w[3];
 }
 
 /// Writes the 20 bytes of a record from that index on; where there is no room for them, nothing.

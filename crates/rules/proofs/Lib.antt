@@ -1,5 +1,6 @@
 pub mod Laws
 mod OneMove
+mod DueLaws
 mod Potential
 mod Sums
 mod Traces

@@ -16,7 +16,7 @@ use Rattle.sched.specs.Steps.{applied, done}
 use Rattle.sched.specs.CanRun.{CanRun}
 use Rattle.sched.specs.Invariants.{Keeps}
 use Rattle.sched.proofs.Laws.{made-keeps}
-use Rattle.changes.specs.declared.Request.{Request}
+use Rattle.calls.specs.declared.Request.{Request}
 use Rattle.moves.specs.declared.Choice.the-variants.{Run, Preempt}
 use Rattle.changes.specs.Changes.{preempted, ran}
 use Rattle.rules.specs.Settle.{enacted}

@@ -1,12 +1,11 @@
--- What an advance can still cost a pCPU: a runner within its slice nothing, an idle pCPU one move, one past it two. Each move takes one
--- off the sum. Assumes nothing.
-use Prim.Native.Nat.{ℕ, suc, _-_, _*_, _/_, _%_, _≤_, _<_, min}
-use mathlib.Core.Bool.{Bool, true, false, cond, and-false}
+-- What an advance can still cost a pCPU: a runner that is not due nothing, an idle pCPU one move, one that is due two. Each move takes
+-- one off the sum. Assumes nothing.
+use Prim.Native.Nat.{ℕ, suc, _*_, _/_, _%_, _≤_, _<_}
+use mathlib.Core.Bool.{Bool, true, false, cond}
 use mathlib.Core.Path.{_≡_, refl, sym, ap}
 use mathlib.Core.Logic.{_≢_}
 use native.Mathlib.Omega.{arith}
-use borrow.Author.Tests.{lt-leb}
-use Rattle.scan.specs.Booleans.{zero-one}
+use Rattle.scans.specs.Booleans.{zero-one}
 use Rattle.system.specs.declared.RunState.the-variants.{Runnable}
 use Rattle.system.specs.declared.VirtualCpu.{VirtualCpu}
 use Rattle.system.specs.declared.Occupant.{Occupant}
@@ -14,38 +13,22 @@ use Rattle.system.specs.declared.Occupant.the-variants.{Idle, Vcpu}
 use Rattle.system.specs.declared.System.{System}
 use Rattle.system.specs.Reads.{vcpuAt, occupantAt}
 use Rattle.system.specs.Writes.{Tables, Wrote, same-pcpus}
-use Rattle.system.specs.Slots.{vcpus, pcpus, slot, slot-of, present}
+use Rattle.system.specs.Slots.{pcpus, slot, slot-of}
 use Rattle.verdict.specs.Sound.{OnPcpu, Sound}
 use Rattle.changes.specs.Records.{dispatched, left}
 use Rattle.sched.specs.CanRun.{CanRun}
 use Rattle.moves.specs.declared.Choice.the-variants.{Run, Preempt}
 use Rattle.rules.specs.Settle.{enacted}
 use Rattle.rules.specs.Rules.{Rule}
-use Rattle.rules.specs.Choices.{standings}
-use Rattle.rules.specs.ChoiceLaws.{CanPreempt, can-expired}
+use Rattle.rules.specs.Due.{due, IsDue}
+use Rattle.rules.specs.Steady.{run, preempt}
+use Rattle.rules.proofs.DueLaws.{dispatched-not-due, due-same}
 use Rattle.rules.proofs.OneMove.{run-wrote, preempt-wrote}
 use Rattle.rules.proofs.Sums.{sum, sum-bound, sum-change}
 
--- ---- who is expired
-
-abbrev pub expired : System → Rule → ℕ → ℕ → Bool
-expired s ρ now i = (standings s ρ now) .expired i
-
--- expiry is a matter of the vCPU's own record
-expired-same : (s s′ : System) (ρ : Rule) (now j : ℕ) → vcpus s′ ≡ vcpus s → vcpuAt s′ j ≡ vcpuAt s j → expired s′ ρ now j ≡ expired s ρ now j
-unfolding standings
-expired-same s s′ ρ now j e f = rw (e, f)
-
--- whoever was dispatched just now is within its slice
-dispatched-unexpired : (s : System) (ρ : Rule) (now j p : ℕ) (v : VirtualCpu) → 1 ≤ ρ .slice → vcpuAt s j ≡ dispatched v p now → expired s ρ now j ≡ false
-unfolding standings dispatched
-dispatched-unexpired s ρ now j p v h e = rw (e, lt-leb (ρ .slice) (now - now) (omega arith)) (and-false (present s j))
-
--- ---- the sum
-
 abbrev pub potentialOf : System → Rule → ℕ → Occupant → ℕ
 potentialOf s ρ now Idle = 1
-potentialOf s ρ now (Vcpu d v) = cond (expired s ρ now (slot d v)) 2 0
+potentialOf s ρ now (Vcpu d v) = cond (due s ρ now (slot d v)) 2 0
 
 unfoldable pub potential : System → Rule → ℕ → ℕ → ℕ
 potential s ρ now p = potentialOf s ρ now (occupantAt s p)
@@ -55,7 +38,7 @@ potentials s ρ now = sum (potential s ρ now) (pcpus s)
 
 pub potential-le : (s : System) (ρ : Rule) (now : ℕ) (o : Occupant) → potentialOf s ρ now o ≤ 2
 potential-le s ρ now Idle = omega arith
-potential-le s ρ now (Vcpu d v) = go (expired s ρ now (slot d v))
+potential-le s ρ now (Vcpu d v) = go (due s ρ now (slot d v))
   where
     go : (b : Bool) → cond b 2 0 ≤ 2
     go true = omega arith
@@ -77,61 +60,68 @@ unfolding potentials
 drops-sum {s} {s′} {ρ} {now} {p} c =
     omega (arith, ap (sum (potential s′ ρ now)) (c .pcpus), sum-change (potential s ρ now) (potential s′ ρ now) (pcpus s) p (c .exists) (c .there), c .here)
 
--- a write of slot i and pCPU p leaves the potential of the other pCPUs, where i holds none of them
+-- a write of slot i and pCPU p leaves the potential of the other pCPUs, where i holds none of them and nobody else's being due changes
 elsewhere : {s s′ : System} {i p : ℕ} {v : VirtualCpu} {o : Occupant} (ρ : Rule) (now : ℕ) → Wrote s s′ i v p o
+    → ((j : ℕ) → j ≢ i → due s′ ρ now j ≡ due s ρ now j)
     → ((q d u : ℕ) → q < pcpus s → q ≢ p → occupantAt s q ≡ Vcpu d u → slot d u ≢ i)
     → (q : ℕ) → q < pcpus s → q ≢ p → potential s ρ now q ≡ potential s′ ρ now q
 unfolding potential
-elsewhere {s} {s′} {i} {p} {v} {o} ρ now w alone q m n = rw (w .others q n) (by (occupantAt s q) refl)
+elsewhere {s} {s′} {i} {p} {v} {o} ρ now w same alone q m n = rw (w .others q n) (by (occupantAt s q) refl)
   where
     by : (x : Occupant) → occupantAt s q ≡ x → potentialOf s ρ now x ≡ potentialOf s′ ρ now x
     by Idle e = refl
-    by (Vcpu d u) e =
-        let j = slot d u in
-        let e = expired-same s s′ ρ now j (ap (λ (k : ℕ). min k 8) (w .shape .vcpus)) (w .there j (alone q d u m n e)) in
-        ap (λ (b : Bool). cond b 2 0) (sym e)
+    by (Vcpu d u) e = ap (λ (b : Bool). cond b 2 0) (sym (same (slot d u) (alone q d u m n e)))
 
-pub run-drops : (s : System) (ρ : Rule) (now i p : ℕ) → 1 ≤ ρ .slice → Tables s → Sound s → CanRun s i p
-    → Drops s ((enacted s now (Run i p)) .system) ρ now p
-unfolding potential
-run-drops s ρ now i p h t S c =
-    record { exists = c .exists; pcpus = same-pcpus (w .shape); here = omega (arith, before, after); there = elsewhere ρ now w alone }
-  where
-    s′ : System
-    s′ = (enacted s now (Run i p)) .system
+module _ (s : System) (ρ : Rule) (now i p : ℕ) (t : Tables s) (S : Sound s) where
+  pub run-drops : 1 ≤ ρ .slice → CanRun s i p → Drops s ((enacted s now (Run i p)) .system) ρ now p
+  unfolding potential
+  run-drops h c =
+      record {
+        exists = c .exists;
+        pcpus = same-pcpus (w .shape);
+        here = omega (arith, before, after);
+        there = elsewhere ρ now w (due-same ρ now t S (run c)) alone;
+      }
+    where
+      s′ : System
+      s′ = (enacted s now (Run i p)) .system
 
-    w : Wrote s s′ i (dispatched (vcpuAt s i) p now) p (Vcpu (i / 8) (i % 8))
-    w = run-wrote s now i p t c
+      w : Wrote s s′ i (dispatched (vcpuAt s i) p now) p (Vcpu (i / 8) (i % 8))
+      w = run-wrote s now i p t c
 
-    alone : (q d u : ℕ) → q < pcpus s → q ≢ p → occupantAt s q ≡ Vcpu d u → slot d u ≢ i
-    alone q d u m n e x = let g = S .occupied q d u m e in let r = g .on in let y = c .ready in zero-one cc
+      alone : (q d u : ℕ) → q < pcpus s → q ≢ p → occupantAt s q ≡ Vcpu d u → slot d u ≢ i
+      alone q d u m n e x = let g = S .occupied q d u m e in let r = g .on in let y = c .ready in zero-one cc
 
-    before : potential s ρ now p ≡ 1
-    before = rw (c .free)
+      before : potential s ρ now p ≡ 1
+      before = rw (c .free)
 
-    after : potential s′ ρ now p ≡ 0
-    after = rw (w .onto, slot-of i, dispatched-unexpired s′ ρ now i p (vcpuAt s i) h (w .here))
+      after : potential s′ ρ now p ≡ 0
+      after = rw (w .onto, slot-of i, dispatched-not-due ρ now t h c)
 
-pub preempt-drops : (s : System) (ρ : Rule) (now i p : ℕ) → Tables s → Sound s → CanPreempt s ρ now i p
-    → Drops s ((enacted s now (Preempt i p)) .system) ρ now p
-unfolding potential
-preempt-drops s ρ now i p t S c =
-    record { exists = o .exists; pcpus = same-pcpus (w .shape); here = omega (arith, before, after); there = elsewhere ρ now w alone }
-  where
-    s′ : System
-    s′ = (enacted s now (Preempt i p)) .system
+  pub preempt-drops : IsDue s ρ now i p → Drops s ((enacted s now (Preempt i p)) .system) ρ now p
+  unfolding potential
+  preempt-drops c =
+      record {
+        exists = o .exists;
+        pcpus = same-pcpus (w .shape);
+        here = omega (arith, before, after);
+        there = elsewhere ρ now w (due-same ρ now t S (preempt (c .present) (c .on))) alone;
+      }
+    where
+      s′ : System
+      s′ = (enacted s now (Preempt i p)) .system
 
-    o : OnPcpu s i p
-    o = S .runs i p (c .present) (c .on)
+      o : OnPcpu s i p
+      o = S .runs i p (c .present) (c .on)
 
-    w : Wrote s s′ i (left (vcpuAt s i) Runnable now) p Idle
-    w = preempt-wrote s now i p t S (c .present) (c .on)
+      w : Wrote s s′ i (left (vcpuAt s i) Runnable now) p Idle
+      w = preempt-wrote s now i p t S (c .present) (c .on)
 
-    alone : (q d u : ℕ) → q < pcpus s → q ≢ p → occupantAt s q ≡ Vcpu d u → slot d u ≢ i
-    alone q d u m n e x = let g = S .occupied q d u m e in let r = g .on in let y = c .on in n (cc)
+      alone : (q d u : ℕ) → q < pcpus s → q ≢ p → occupantAt s q ≡ Vcpu d u → slot d u ≢ i
+      alone q d u m n e x = let g = S .occupied q d u m e in let r = g .on in let y = c .on in n (cc)
 
-    before : potential s ρ now p ≡ 2
-    before = rw (o .back, slot-of i, can-expired s ρ now i p c)
+      before : potential s ρ now p ≡ 2
+      before = rw (o .back, slot-of i, c .due)
 
-    after : potential s′ ρ now p ≡ 1
-    after = rw (w .onto)
+      after : potential s′ ρ now p ≡ 1
+      after = rw (w .onto)

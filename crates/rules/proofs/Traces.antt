@@ -10,7 +10,7 @@ use native.Mathlib.Decide.{ℕ-discrete}
 use lib.Dec.{eqb}
 use lib.ListN.{length}
 use borrow.Author.Tests.{eq-eqb, ne-eqb}
-use Rattle.scan.specs.Booleans.{zero-one}
+use Rattle.scans.specs.Booleans.{zero-one}
 use Rattle.system.specs.declared.VirtualCpu.{VirtualCpu}
 use Rattle.system.specs.declared.Occupant.{Occupant}
 use Rattle.system.specs.declared.System.{System}
@@ -28,16 +28,18 @@ use Rattle.moves.specs.declared.Choice.the-variants.{Run, Preempt, Rest}
 use Rattle.rules.specs.Settle.{enacted, Settled, withMove, goOn, settle, movesOn, limit}
 use Rattle.rules.specs.Rules.{Rule}
 use Rattle.rules.specs.Choices.{choice}
-use Rattle.rules.specs.ChoiceLaws.{CanPreempt, choice-run, choice-complete, choice-preempt}
+use Rattle.rules.specs.ChoiceLaws.{choice-run, choice-complete}
+use Rattle.rules.specs.Due.{IsDue, TakenOff, chosen}
+use Rattle.rules.proofs.DueLaws.{chosen-due}
 use Rattle.rules.proofs.OneMove.{run-wrote, run-keeps, preempt-wrote, preempt-keeps}
 use Rattle.rules.proofs.Potential.{potential, potentials, potential-le, potentials-le, Drops, drops-sum, run-drops, preempt-drops}
 
--- Moves made one after another, each the choice where it is made and each one that may be made.
+-- Moves made one after another: each is called for where it is made, and may be made.
 pub data Trace (ρ : Rule) (now : ℕ) : System → List Choice → System → Type 0 where
   rest : {s : System} → Trace ρ now s [] s
   run : {s t : System} {i p : ℕ} {cs : List Choice} → choice s ρ now ≡ Run i p → CanRun s i p
       → Trace ρ now ((enacted s now (Run i p)) .system) cs t → Trace ρ now s (Run i p ∷ cs) t
-  preempt : {s t : System} {i p : ℕ} {cs : List Choice} → choice s ρ now ≡ Preempt i p → CanPreempt s ρ now i p
+  preempt : {s t : System} {i p : ℕ} {cs : List Choice} → TakenOff s ρ now i p → IsDue s ρ now i p
       → Trace ρ now ((enacted s now (Preempt i p)) .system) cs t → Trace ρ now s (Preempt i p ∷ cs) t
 
 -- what settling gives is such a trace
@@ -49,7 +51,7 @@ settle-trace ρ now (suc k) s = go (choice s ρ now) refl (λ t. settle-trace ρ
     go : (c : Choice) → choice s ρ now ≡ c → ((t : System) → Trace ρ now t ((settle ρ now k t) .moves) ((settle ρ now k t) .system))
         → Trace ρ now s ((goOn (λ t. settle ρ now k t) s now c) .moves) ((goOn (λ t. settle ρ now k t) s now c) .system)
     go (Run i p) e ih = run e (choice-run s ρ now i p e) (ih _)
-    go (Preempt i p) e ih = preempt e (choice-preempt s ρ now i p e) (ih _)
+    go (Preempt i p) e ih = preempt (chosen e) (chosen-due s ρ now i p e) (ih _)
     go Rest e ih = rest
 
 module _ {ρ : Rule} {now : ℕ} where
@@ -68,7 +70,7 @@ module _ {ρ : Rule} {now : ℕ} where
   trace-potential rest h t S = omega arith
   trace-potential (run {s} {i = i} {p = p} e c r) h t S =
       let k = run-keeps s now i p t S c in
-      omega (arith, trace-potential r h (k .shape .tables t) (k .sound), drops-sum (run-drops s ρ now i p h t S c))
+      omega (arith, trace-potential r h (k .shape .tables t) (k .sound), drops-sum (run-drops s ρ now i p t S h c))
   trace-potential (preempt {s} {i = i} {p = p} e c r) h t S =
       let k = preempt-keeps s now i p t S (c .present) in
       omega (arith, trace-potential r h (k .shape .tables t) (k .sound), drops-sum (preempt-drops s ρ now i p t S c))
@@ -90,7 +92,7 @@ module _ {ρ : Rule} {now : ℕ} where
   trace-potential-on q l rest h t S = omega arith
   trace-potential-on q l (run {s} {i = i} {p = p} e c r) h t S =
       let k = run-keeps s now i p t S c in
-      let x = run-drops s ρ now i p h t S c in
+      let x = run-drops s ρ now i p t S h c in
       omega (arith, drops-on x q l, trace-potential-on q (omega (arith, x .pcpus)) r h (k .shape .tables t) (k .sound))
   trace-potential-on q l (preempt {s} {i = i} {p = p} e c r) h t S =
       let k = preempt-keeps s now i p t S (c .present) in
@@ -166,9 +168,9 @@ settle-rests ρ now (suc k) s h t S l = go (choice s ρ now) refl (λ u. settle-
     go (Run i p) e ih =
         let c = choice-run s ρ now i p e in
         let m = run-keeps s now i p t S c in
-        ih _ (m .shape .tables t) (m .sound) (omega (arith, drops-sum (run-drops s ρ now i p h t S c)))
+        ih _ (m .shape .tables t) (m .sound) (omega (arith, drops-sum (run-drops s ρ now i p t S h c)))
     go (Preempt i p) e ih =
-        let c = choice-preempt s ρ now i p e in
+        let c = chosen-due s ρ now i p e in
         let m = preempt-keeps s now i p t S (c .present) in
         ih _ (m .shape .tables t) (m .sound) (omega (arith, drops-sum (preempt-drops s ρ now i p t S c)))
     go Rest e ih = e

@@ -4,7 +4,7 @@ use mathlib.Core.Bool.{Bool, true, false, not, false≢true}
 use mathlib.Core.Path.{_≡_, refl, sym, _∙_, ap, subst}
 use native.Mathlib.Omega.{arith}
 use borrow.Author.Tests.{ltb-true, lt-ltb, leb-true, le-leb, not-true}
-use Rattle.scan.specs.Booleans.{both, all-two}
+use Rattle.scans.specs.Booleans.{both, all-two}
 use Rattle.system.specs.declared.RunState.{RunState}
 use Rattle.system.specs.declared.RunState.the-variants.{Offline, Runnable, Running, Blocked}
 use Rattle.system.specs.declared.System.{System}
@@ -14,15 +14,15 @@ use Rattle.system.specs.Slots.{pcpus, Present, slots, present, is-present, pres
 use Rattle.system.specs.States.{onto, isRunnable, is-runnable}
 use Rattle.sched.specs.CanRun.{CanRun}
 use Rattle.moves.specs.declared.Choice.the-variants.{Run, Preempt, Rest}
-use Rattle.scan.specs.Scan.{Ranks}
+use Rattle.scans.specs.Scan.{Ranks}
 use Rattle.moves.specs.Decide.{placement}
 use Rattle.moves.specs.DecideLaws.{Fits, Beats, IsRun, run-fits, run-placed, run-found, preempt-beaten, rest-unbeaten}
-use Rattle.moves.specs.BackToLast.{placedBack, decide-cold}
+use Rattle.moves.specs.BackToLast.{placedBack, decide-by-lowest}
 use Rattle.moves.specs.DecideLaws.{placement-last, placement-lowest, pick-least, pick-earliest, victim-worst, victim-earliest}
 use Rattle.rules.specs.Rules.{Rule, beats}
-use Rattle.rules.specs.Choices.{isExpired, standings, choice, coldChoice}
+use Rattle.rules.specs.Choices.{isExpired, standings, choice, choiceByLowest}
 
--- the runner of slot i on pCPU p may be preempted: it has held it for the slice
+-- the choice may preempt the runner of slot i on pCPU p: it has held it for the slice
 pub record CanPreempt (s : System) (ρ : Rule) (now i p : ℕ) : Type 0 where
   pub present : Present s i
   pub on : stateAt s i ≡ Running p
@@ -157,10 +157,10 @@ module _ (s : System) (ρ : Rule) (now : ℕ) where
       (placement-lowest (standings s ρ now) i q (λ f. n (fits-can i (lastAt s i) (present-is (c .present) .0) f))
       (can-fits i q c (choice-unbarred i p e)))
 
-  -- in nothing but that pCPU is the choice other than the Rust's
-  pub choice-cold : choice s ρ now ≡ placedBack (standings s ρ now) (coldChoice s ρ now)
-  unfolding choice coldChoice
-  choice-cold = decide-cold (standings s ρ now) (slots s)
+  -- in nothing but that pCPU is the choice other than upstream's
+  pub choice-by-lowest : choice s ρ now ≡ placedBack (standings s ρ now) (choiceByLowest s ρ now)
+  unfolding choice choiceByLowest
+  choice-by-lowest = decide-by-lowest (standings s ρ now) (slots s)
 
   -- a Preempt is of a runner past its slice
   pub choice-preempt : (i p : ℕ) → choice s ρ now ≡ Preempt i p → CanPreempt s ρ now i p

@@ -9,7 +9,7 @@ use Rattle.system.specs.Reads.{vcpuAt, idleAt}
 use Rattle.system.specs.Slots.{slots, present}
 use Rattle.system.specs.States.{onto, whileRunning, isRunnable}
 use Rattle.moves.specs.declared.Choice.{Choice}
-use Rattle.moves.specs.Decide.{Standings, decide, cold}
+use Rattle.moves.specs.Decide.{Standings, decide, byLowest}
 use Rattle.rules.specs.Rules.{Rule, beats}
 
 -- Running for at least the slice
@@ -32,6 +32,6 @@ standings s ρ now =
 unfoldable pub choice : System → Rule → ℕ → Choice
 choice s ρ now = decide (standings s ρ now) (slots s)
 
--- the next move by the rule without the pCPU that a vCPU was last on, the rule that the Rust decides by
-unfoldable pub coldChoice : System → Rule → ℕ → Choice
-coldChoice s ρ now = decide (cold (standings s ρ now)) (slots s)
+-- the next move by the rule without the pCPU that a vCPU was last on, the rule that upstream decides by
+unfoldable pub choiceByLowest : System → Rule → ℕ → Choice
+choiceByLowest s ρ now = decide (byLowest (standings s ρ now)) (slots s)

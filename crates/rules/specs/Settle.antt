@@ -6,7 +6,7 @@ use lib.Dec.{eqb}
 use Rattle.system.specs.declared.System.{System}
 use Rattle.system.specs.Answers.{SystemOutcome}
 use Rattle.system.specs.Slots.{domains, vcpus, pcpus}
-use Rattle.changes.specs.declared.Request.{Request}
+use Rattle.calls.specs.declared.Request.{Request}
 use Rattle.sched.specs.Steps.{made, done}
 use Rattle.moves.specs.declared.Choice.{Choice}
 use Rattle.moves.specs.declared.Choice.the-variants.{Run, Preempt, Rest}
@@ -18,6 +18,17 @@ unfoldable pub enacted : System → ℕ → Choice → SystemOutcome
 enacted s now (Run i p) = made s i (Request.Run p now)
 enacted s now (Preempt i p) = made s i (Request.Preempt now)
 enacted s now Rest = done s
+
+-- the slot that moves, and the pCPU that it moves onto or off
+abbrev pub slotIn : Choice → ℕ
+slotIn (Run i p) = i
+slotIn (Preempt i p) = i
+slotIn Rest = 0
+
+abbrev pub ontoIn : Choice → ℕ
+ontoIn (Run i p) = p
+ontoIn (Preempt i p) = p
+ontoIn Rest = 0
 
 -- a system, and the moves that led there, in order
 pub record Settled : Type 0 where

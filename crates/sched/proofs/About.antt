@@ -4,7 +4,7 @@ use mathlib.Core.Bool.{Bool, true, false, cond}
 use mathlib.Core.Path.{_≡_, refl, _∙_, ap}
 use native.Mathlib.Omega.{arith}
 use borrow.Author.Tests.{ltb-true}
-use Rattle.masks.specs.Masks.{permits}
+use Rattle.masks.specs.Masks.{permits, clipped}
 use Rattle.system.specs.declared.RunState.{RunState}
 use Rattle.system.specs.declared.RunState.the-variants.{Offline, Runnable, Running, Blocked}
 use Rattle.system.specs.declared.VirtualCpu.{VirtualCpu}
@@ -13,14 +13,14 @@ use Rattle.system.specs.declared.Answer.{Answer}
 use Rattle.system.specs.Reads.{vcpuAt}
 use Rattle.system.specs.Slots.{pcpus, Present}
 use Rattle.verdict.specs.Sound.{Sound}
-use Rattle.verdict.specs.Elements.{pcpuIndex}
+use Rattle.verdict.specs.OneViolation.{pcpuIndex}
 use Rattle.verdict.proofs.Laws.{index-below}
-use Rattle.changes.specs.declared.Request.{Request}
+use Rattle.calls.specs.declared.Request.{Request}
 use Rattle.changes.specs.declared.Change.{Change}
 use Rattle.changes.specs.declared.Change.the-variants.{Refuse, Write, Enter, Leave}
-use Rattle.changes.specs.Changes.{admitted, ran, preempted, blocked, woken, masked, offlined, reaches, pcpuOf}
+use Rattle.changes.specs.Changes.{admitted, ran, preempted, blocked, woken, masked, offlined, reaches}
 use Rattle.sched.specs.Steps.{changeOf}
-use Rattle.sched.specs.Elements.{pcpuRead}
+use Rattle.sched.specs.RequestInPlace.{pcpuRead}
 
 -- ---- what is read is in the table
 
@@ -41,12 +41,6 @@ About (Refuse a) p = Unit {0}
 About (Write v) p = Unit {0}
 About (Enter v q) p = p ≡ q
 About (Leave v q) p = p ≡ q
-
-pub about-own : (c : Change) → About c (pcpuOf c)
-about-own (Refuse a) = tt
-about-own (Write v) = tt
-about-own (Enter v q) = refl
-about-own (Leave v q) = refl
 
 about-if : (b : Bool) (c : Change) (a : Answer) (p : ℕ) → About c p → About (cond b c (Refuse a)) p
 about-if true c a p h = h
@@ -110,5 +104,5 @@ module _ {s : System} {i : ℕ} (S : Sound s) (h : Present s i) where
   read-about (Request.Preempt now) r = preempted-about x _ on now (x .state) refl
   read-about (Request.Block now) r = blocked-about x _ on now (x .state) refl
   read-about Request.Wake r = woken-about x _ on (x .state)
-  read-about (Request.SetAffinity m) r = masked-about x _ on m (x .state)
+  read-about (Request.SetAffinity m) r = masked-about x _ on (clipped m (s .«pcpu_count»)) (x .state)
   read-about (Request.Offline now) r = offlined-about x _ on _ now (x .state) refl

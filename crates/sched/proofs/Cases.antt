@@ -5,15 +5,16 @@ use mathlib.Core.Bool.{Bool, true, false, cond}
 use mathlib.Core.Path.{_≡_, refl}
 use native.Mathlib.Omega.{arith}
 use lib.Dec.{ltb}
-use borrow.Author.Tests.{ltb-true}
+use borrow.Author.Tests.{ltb-true, lt-ltb}
 use Rattle.system.specs.declared.System.{System}
 use Rattle.system.specs.declared.Answer.{Answer}
 use Rattle.system.specs.declared.Answer.the-variants.{BadDomain, BadVcpu, BadPcpu, Unsound}
 use Rattle.system.specs.Answers.{SystemOutcome}
 use Rattle.system.specs.Slots.{domains, vcpus, pcpus, slot, Present}
+use Rattle.verdict.specs.Sound.{Sound, sound-iff}
 use Rattle.verdict.specs.Violations.{invariantsHold}
 use Rattle.changes.specs.Changes.{reaches}
-use Rattle.changes.specs.declared.Request.{Request}
+use Rattle.calls.specs.declared.Request.{Request}
 use Rattle.sched.specs.Steps.{made, tested, requested, offlineFirst, offlineAll}
 
 module _ (s : System) (P : System → Type 0) (stays : P s) where
@@ -38,3 +39,9 @@ module _ (s : System) (P : System → Type 0) (stays : P s) where
       go : (b : Bool) → ltb d (domains s) ≡ b → P (offlineFirst s d now (cond b (vcpus s) 0))
       go true e = f (ltb-true d (domains s) e)
       go false e = stays
+
+-- a request of ids in range, of a sound system, is made
+pub requested-made : (s : System) → Sound s → (d v : ℕ) → d < domains s → v < vcpus s → (q : Request) → reaches q (pcpus s) ≡ true
+    → requested s d v q ≡ made s (slot d v) q
+unfolding requested
+requested-made s S d v a b q r = rw (sound-iff s .1 S, r, lt-ltb d (domains s) a, lt-ltb v (vcpus s) b)

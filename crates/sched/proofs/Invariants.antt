@@ -10,10 +10,10 @@ use Rattle.system.specs.Writes.{Tables, SameShape, shape-refl, shape-trans, pre
 use Rattle.system.specs.Slots.{domains, vcpus, pcpus, slot, Present}
 use Rattle.verdict.specs.Sound.{Sound}
 use Rattle.changes.specs.Changes.{reaches}
-use Rattle.changes.specs.declared.Request.{Request}
+use Rattle.calls.specs.declared.Request.{Request}
 use Rattle.changes.specs.declared.Change.{Change}
-use Rattle.sched.specs.Steps.{made, requested, offlineFirst, offlineAll}
-use Rattle.sched.specs.Invariants.{Keeps}
+use Rattle.sched.specs.Steps.{made, offlineFirst}
+use Rattle.sched.specs.Invariants.{Keeps, RequestedKeeps, OfflineAllKeeps}
 use Rattle.sched.proofs.Runtime.{same-times, grows}
 use Rattle.sched.proofs.Legal.{Legal, stays, keeps, busy, goes-on, comes-off, sound-on, sound-off, sound-keep}
 use Rattle.sched.proofs.Cases.{requested-case, offline-all-case}
@@ -57,18 +57,18 @@ and-then x y =
           record { time = λ j. le-trans (g .time j) (h .time j); word = h .word };
     }
 
-module _ (s : System) (S : Sound s) (t : Tables s) where
-  pub requested-keeps : (d v : ℕ) (q : Request) → Keeps s ((requested s d v q) .system)
-  requested-keeps d v q = requested-case s (Keeps s) (unchanged S) d v q (λ h r. made-keeps t S h q r)
+pub requested-keeps : RequestedKeeps
+requested-keeps s S t d v q = requested-case s (Keeps s) (unchanged S) d v q (λ h r. made-keeps t S h q r)
 
-  -- one vCPU after another
-  pub first-keeps : (d now k : ℕ) → d < domains s → k ≤ vcpus s → Keeps s (offlineFirst s d now k)
-  unfolding offlineFirst
-  first-keeps d now zero a l = unchanged S
-  first-keeps d now (suc k) a l =
-      let h = first-keeps d now k a (omega arith) in
-      let p = present-on {i = slot d k} (h .shape) (record { domain = omega arith; vcpu = omega arith }) in
-      and-then h (made-keeps (h .shape .tables t) (h .sound) p (Request.Offline now) refl)
+-- one vCPU after another
+pub first-keeps : (s : System) → Sound s → Tables s → (d now k : ℕ) → d < domains s → k ≤ vcpus s → Keeps s (offlineFirst s d now k)
+unfolding offlineFirst
+first-keeps s S t d now zero a l = unchanged S
+first-keeps s S t d now (suc k) a l =
+    let h = first-keeps s S t d now k a (omega arith) in
+    let p = present-on {i = slot d k} (h .shape) (record { domain = omega arith; vcpu = omega arith }) in
+    and-then h (made-keeps (h .shape .tables t) (h .sound) p (Request.Offline now) refl)
 
-  pub offline-all-keeps : (d now : ℕ) → Keeps s ((offlineAll s d now) .system)
-  offline-all-keeps d now = offline-all-case s (Keeps s) (unchanged S) d now (λ a. first-keeps d now (vcpus s) a (omega arith))
+pub offline-all-keeps : OfflineAllKeeps
+offline-all-keeps s S t d now =
+    offline-all-case s (Keeps s) (unchanged S) d now (λ a. first-keeps s S t d now (vcpus s) a (omega arith))

@@ -5,7 +5,7 @@ use mathlib.Core.Path.{_≡_, sym, _∙_}
 use native.Mathlib.Omega.{arith}
 use native.Mathlib.Decide.{ℕ-discrete}
 use Rattle.masks.specs.Masks.{permits}
-use Rattle.scan.specs.Booleans.{zero-one}
+use Rattle.scans.specs.Booleans.{zero-one}
 use Rattle.system.specs.declared.RunState.{RunState}
 use Rattle.system.specs.declared.RunState.the-variants.{Running}
 use Rattle.system.specs.declared.VirtualCpu.{VirtualCpu}

@@ -4,8 +4,8 @@ use mathlib.Core.Bool.{Bool, true, false, cond}
 use mathlib.Core.Path.{_≡_, refl, sym, subst}
 use native.Mathlib.Omega.{arith}
 use borrow.Author.Tests.{ltb-true}
-use Rattle.masks.specs.Masks.{permits}
-use Rattle.scan.specs.Booleans.{zero-one}
+use Rattle.masks.specs.Masks.{permits, clipped}
+use Rattle.scans.specs.Booleans.{zero-one}
 use Rattle.system.specs.declared.RunState.{RunState}
 use Rattle.system.specs.declared.RunState.the-variants.{Offline, Runnable, Running, Blocked}
 use Rattle.system.specs.declared.VirtualCpu.{VirtualCpu}
@@ -19,7 +19,7 @@ use Rattle.system.specs.Writes.{putVcpu, putOccupant, wrote-vcpu, wrote-both}
 use Rattle.system.specs.Slots.{pcpus, Present, slot-below}
 use Rattle.verdict.specs.Sound.{Sound}
 use Rattle.changes.specs.Changes.{admitted, ran, preempted, blocked, woken, masked, offlined, reaches}
-use Rattle.changes.specs.declared.Request.{Request}
+use Rattle.calls.specs.declared.Request.{Request}
 use Rattle.changes.specs.declared.Change.{Change}
 use Rattle.changes.specs.declared.Change.the-variants.{Refuse, Write, Enter, Leave}
 use Rattle.changes.specs.Records.{dispatched, left}
@@ -136,5 +136,5 @@ module _ (s : System) (i : ℕ) (S : Sound s) (h : Present s i) where
   made-legal (Request.Preempt now) r = preempted-legal now (old .state) refl
   made-legal (Request.Block now) r = blocked-legal now (old .state) refl
   made-legal Request.Wake r = woken-legal (old .state) refl
-  made-legal (Request.SetAffinity m) r = masked-legal m (old .state) refl
+  made-legal (Request.SetAffinity m) r = masked-legal (clipped m (s .«pcpu_count»)) (old .state) refl
   made-legal (Request.Offline now) r = offlined-legal (fullAffinity s) now (old .state) refl

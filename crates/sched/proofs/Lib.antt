@@ -1,6 +1,6 @@
 pub mod Laws
 mod About
-mod Elements
+mod RequestInPlace
 mod OfflineAllLoop
 mod Stores
 mod Legal

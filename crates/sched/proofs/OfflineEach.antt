@@ -6,7 +6,7 @@ use mathlib.Core.Path.{_≡_, refl, sym, _∙_, ap}
 use native.Mathlib.Nat.{eq-or-lt-of-le}
 use native.Mathlib.Omega.{arith}
 use lib.Dec.{ltb}
-use borrow.Author.Tests.{ltb-true, lt-ltb}
+use borrow.Author.Tests.{ltb-true}
 use Rattle.system.specs.declared.RunState.{RunState}
 use Rattle.system.specs.declared.RunState.the-variants.{Offline, Runnable, Running, Blocked}
 use Rattle.system.specs.declared.Occupant.the-variants.{Idle}
@@ -15,24 +15,18 @@ use Rattle.system.specs.declared.VirtualCpu.{VirtualCpu}
 use Rattle.system.specs.declared.Answer.the-variants.{Done}
 use Rattle.system.specs.Answers.{told, SystemOutcome}
 use Rattle.system.specs.Reads.{vcpuAt, stateAt, vcpuCount, fullAffinity}
-use Rattle.system.specs.Slots.{domains, vcpus, pcpus, slot, slot-below, Present}
+use Rattle.system.specs.Slots.{domains, vcpus, slot, slot-below, Present}
 use Rattle.system.specs.Writes.{Tables, wrote-vcpu, wrote-both}
 use Rattle.verdict.specs.Sound.{Sound, sound-iff}
-use Rattle.changes.specs.Changes.{foundIn, offlined, reaches}
+use Rattle.changes.specs.Changes.{foundIn, offlined}
 use Rattle.changes.specs.Records.{left}
-use Rattle.changes.specs.declared.Request.{Request}
+use Rattle.calls.specs.declared.Request.{Request}
 use Rattle.changes.specs.declared.Change.{Change}
-use Rattle.sched.specs.Steps.{refused, done, applied, made, requested, offline, offlineFirst, offlineAll}
-use Rattle.sched.specs.OfflineEach.{offlinedEach, OfflinesEach}
+use Rattle.sched.specs.Steps.{refused, done, applied, made, offline, offlineFirst, offlineAll}
+use Rattle.sched.specs.OfflineEach.{offlinedEach, OfflineAllEach}
 use Rattle.sched.proofs.Legal.{Legal, stays, keeps, busy, goes-on, comes-off}
 use Rattle.sched.proofs.LegalRequests.{made-legal}
-use Rattle.sched.proofs.OfflineAllLoop.{Turn, next-turn}
-
--- a request of ids in range, of a sound system, is made
-pub requested-made : (s : System) → Sound s → (d v : ℕ) → d < domains s → v < vcpus s → (q : Request) → reaches q (pcpus s) ≡ true
-    → requested s d v q ≡ made s (slot d v) q
-unfolding requested
-requested-made s S d v a b q r = rw (sound-iff s .1 S, r, lt-ltb d (domains s) a, lt-ltb v (vcpus s) b)
+use Rattle.sched.proofs.OfflineAllLoop.{Turn, next-turn, turn-made, turn-present}
 
 -- a legal change leaves all other records as they are
 legal-there : {s : System} {i : ℕ} {c : Change} {r : SystemOutcome} → Tables s → Legal s i c r → (j : ℕ) → j ≢ i
@@ -72,25 +66,20 @@ module _ (s : System) (t : Tables s) (S : Sound s) (d now : ℕ) (a : d < domain
   turn : (k : ℕ) → k < vcpus s → Turn s (after k) d now k
   turn k l = next-turn refl t S a l
 
-  turn-made : (k : ℕ) → k < vcpus s → offline (after k) d k now ≡ made (after k) (slot d k) (Request.Offline now)
-  turn-made k l =
-      let m = turn k l .keeps in
-      requested-made (after k) (m .sound) d k (omega (arith, m .shape .domains)) (omega (arith, m .shape .vcpus)) (Request.Offline now) refl
-
   -- the calls are the turns of the loop
   each-first : (k : ℕ) → k ≤ vcpus s → offlinedEach s d now k ≡ after k
   unfolding offlinedEach offlineFirst
   each-first zero l = refl
   each-first (suc k) l =
       ap (λ (u : System). (offline u d k now) .system) (each-first k (omega arith))
-      ∙ ap (λ (r : SystemOutcome). r .system) (turn-made k (omega arith))
+      ∙ ap (λ (r : SystemOutcome). r .system) (turn-made (turn k (omega arith)))
 
   -- a turn leaves the vCPUs of other slots as they are
   turn-there : (k j : ℕ) → k < vcpus s → j ≢ slot d k → vcpuAt (after (suc k)) j ≡ vcpuAt (after k) j
   unfolding offlineFirst
   turn-there k j l n =
       let m = turn k l in
-      legal-there (m .keeps .shape .tables t) (made-legal (after k) (slot d k) (m .keeps .sound) (m .present) (Request.Offline now) refl) j n
+      legal-there (m .keeps .shape .tables t) (made-legal (after k) (slot d k) (m .keeps .sound) (turn-present m) (Request.Offline now) refl) j n
 
   -- so that a vCPU is as it was until its turn
   until : (k j : ℕ) → k ≤ j → k ≤ vcpus s → vcpuAt (after k) (slot d j) ≡ vcpuAt s (slot d j)
@@ -108,13 +97,13 @@ module _ (s : System) (t : Tables s) (S : Sound s) (d now : ℕ) (a : d < domain
       go (inl e) ih =
           let m = turn k (omega arith) in
           let x : j ≡ k = omega arith in
-          rw x (offline-leaves (after k) (slot d k) now (m .keeps .shape .tables t) (m .keeps .sound) (m .present))
+          rw x (offline-leaves (after k) (slot d k) now (m .keeps .shape .tables t) (m .keeps .sound) (turn-present m))
       go (inr e) ih = ap (λ (v : VirtualCpu). v .state) (turn-there k (slot d j) (omega arith) (λ x. omega arith)) ∙ ih (omega arith)
 
   -- what the call of vCPU k is told, by the state in which the whole call found it
   told-live : (k : ℕ) → k < vcpus s → (stateAt s (slot d k) ≡ Offline → ⊥) → (offline (offlinedEach s d now k) d k now) .number ≡ told Done
   told-live k l n =
-      rw (each-first k (omega arith), turn-made k l)
+      rw (each-first k (omega arith), turn-made (turn k l))
       (offline-told (after k) (slot d k) _ now _ (stateAt (after k) (slot d k))
       (λ e. n (ap (λ (v : VirtualCpu). v .state) (sym (until k k (omega arith) (omega arith))) ∙ e)))
 
@@ -124,7 +113,7 @@ module _ (s : System) (t : Tables s) (S : Sound s) (d now : ℕ) (a : d < domain
   told-down k l e =
       let f : stateAt (after k) (slot d k) ≡ Offline = ap (λ (v : VirtualCpu). v .state) (until k k (omega arith) (omega arith)) ∙ e in
       rw (each-first k (omega arith))
-      (turn-made k l
+      (turn-made (turn k l)
       ∙ ap (λ (st : RunState). applied (after k) (slot d k) (offlined (vcpuAt (after k) (slot d k)) (fullAffinity (after k)) now st)) f)
 
 -- a bad domain has no vCPUs
@@ -135,7 +124,7 @@ in-count s d k l = go (ltb d (domains s)) refl l
     go true e m = (ltb-true d (domains s) e, m)
     go false e m = absurd (omega arith)
 
-pub offline-all-each : (s : System) → Tables s → Sound s → (d now : ℕ) → OfflinesEach s d now
+pub offline-all-each : OfflineAllEach
 unfolding offlineAll offlinedEach offlineFirst
 offline-all-each s t S d now =
     record {

@@ -1,7 +1,7 @@
 -- What the stores of a change leave is what the definition says. Assumes nothing.
 use Prim.Native.Nat.{ℕ, _/_, _%_}
 use mathlib.Core.Bool.{Bool, true, false, cond}
-use mathlib.Core.Path.{_≡_, refl, sym, _∙_, ap}
+use mathlib.Core.Path.{_≡_, refl, sym}
 use lib.ListN.{getD}
 use lib.Seq.{set-getD}
 use Rattle.system.specs.declared.VirtualCpu.{VirtualCpu}
@@ -15,13 +15,13 @@ use Rattle.system.specs.Answers.{SystemOutcome}
 use Rattle.system.specs.Shape.{noVcpu, idle}
 use Rattle.system.specs.Reads.{occupantAt, isIdle}
 use Rattle.system.specs.Writes.{putVcpu, putOccupant}
-use Rattle.changes.specs.Changes.{pcpuOf, stored}
+use Rattle.changes.specs.Changes.{kept, stored}
 use Rattle.changes.specs.declared.Change.{Change}
 use Rattle.changes.specs.declared.Change.the-variants.{Refuse, Write, Enter, Leave}
 use Rattle.changes.specs.declared.After.{After}
 use Rattle.sched.specs.Steps.{applied, refused, tested}
-use Rattle.sched.specs.Elements.{kept, stores}
-use Rattle.sched.proofs.About.{About, about-own}
+use Rattle.sched.specs.RequestInPlace.{stores}
+use Rattle.sched.proofs.About.{About}
 
 module _ (s : System) (i p : ℕ) where
   abbrev x : VirtualCpu
@@ -49,7 +49,3 @@ module _ (s : System) (i p : ℕ) where
   stores-applied (Write v) h = rw (set-getD (s .pcpus) p idle)
   stores-applied (Enter v q) h = rw (sym h) (stores-tested (isIdle (c .occupant)) PcpuBusy _ _ (λ e. refl))
   stores-applied (Leave v q) h = rw (sym h)
-
-pub made-by-stores : (s : System) (i : ℕ) {y z : Change} {o : Occupant} {p : ℕ} {r : After} → y ≡ z → o ≡ Vcpu (i / 8) (i % 8) → p ≡ pcpuOf y
-    → r ≡ stored y o (getD (s .vcpus) i noVcpu) (getD (s .pcpus) p idle) → stores s i p r ≡ applied s i z
-made-by-stores s i {y} e eo ep er = rw (er, eo, ep) (stores-applied s i (pcpuOf y) y (about-own y) ∙ ap (applied s i) e)

@@ -11,7 +11,7 @@ use Rattle.system.specs.Reads.{occupantAt, isIdle, vcpuCount}
 use Rattle.system.specs.Slots.{domains, vcpus, pcpus, slot}
 use Rattle.verdict.specs.Violations.{invariantsHold}
 use Rattle.changes.specs.Changes.{reaches}
-use Rattle.changes.specs.declared.Request.{Request}
+use Rattle.calls.specs.declared.Request.{Request}
 use Rattle.changes.specs.declared.Change.{Change}
 use Rattle.changes.specs.declared.Change.the-variants.{Refuse, Write, Enter, Leave}
 use Rattle.sched.specs.Steps.{refused, applied, tested, requested, offlineFirst, offlineAll}

@@ -1,7 +1,7 @@
 pub mod Steps
-pub mod Elements
+pub mod RequestInPlace
 pub mod Answered
-pub mod Found
+pub mod StateTold
 pub mod Invariants
 pub mod CanRun
 pub mod NotAffine

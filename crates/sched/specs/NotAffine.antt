@@ -20,7 +20,7 @@ use Rattle.system.specs.Reads.{vcpuAt, occupantAt, isIdle, vcpuOf, stateIn, sta
 use Rattle.system.specs.Slots.{domains, vcpus, pcpus, slot}
 use Rattle.verdict.specs.Violations.{invariantsHold}
 use Rattle.verdict.specs.Sound.{Sound, sound-iff}
-use Rattle.changes.specs.declared.Request.{Request}
+use Rattle.calls.specs.declared.Request.{Request}
 use Rattle.changes.specs.declared.Change.the-variants.{Refuse, Enter}
 use Rattle.changes.specs.Records.{dispatched}
 use Rattle.changes.specs.Changes.{ran}

@@ -1,4 +1,4 @@
--- `offline_all` is `offline` of each vCPU of the domain, in order. It is proved as `offline-all-each`.
+-- `offline_all` is `offline` of each vCPU of the domain, in order.
 use Prim.Native.Nat.{ℕ, zero, suc, _<_}
 use mathlib.Core.Path.{_≡_}
 use Rattle.system.specs.declared.RunState.the-variants.{Offline}
@@ -7,6 +7,8 @@ use Rattle.system.specs.declared.Answer.the-variants.{Done}
 use Rattle.system.specs.Answers.{told}
 use Rattle.system.specs.Reads.{stateAt, vcpuCount}
 use Rattle.system.specs.Slots.{slot}
+use Rattle.system.specs.Writes.{Tables}
+use Rattle.verdict.specs.Sound.{Sound}
 use Rattle.changes.specs.Changes.{foundIn}
 use Rattle.sched.specs.Steps.{refused, done, offline, offlineAll}
 
@@ -26,3 +28,7 @@ pub record OfflinesEach (s : System) (d now : ℕ) : Type 0 where
       → offline (offlinedEach s d now k) d k now ≡ refused (foundIn Offline) (offlinedEach s d now k)
   -- then all are Offline
   pub all : (k : ℕ) → k < vcpuCount s d → stateAt ((offlineAll s d now) .system) (slot d k) ≡ Offline
+
+-- of every sound system; it is proved as `offline-all-each`
+abbrev pub OfflineAllEach : Type 0
+OfflineAllEach = (s : System) → Tables s → Sound s → (d now : ℕ) → OfflinesEach s d now

@@ -16,11 +16,12 @@ use Rattle.system.specs.Shape.{fresh}
 use Rattle.system.specs.Slots.{slot}
 use Rattle.system.specs.Writes.{putVcpu, putOccupant}
 use Rattle.verdict.specs.Violations.{slotViolation, pcpuViolation, earliest, firstViolation, invariantsHold}
-use Rattle.changes.specs.declared.Request.{Request}
+use Rattle.calls.specs.declared.Request.{Request}
 use Rattle.changes.specs.Records.{dispatched, left}
 use Rattle.sched.specs.Steps.{applied, requested, offlineFirst, offlineAll}
 use Rattle.sched.specs.Steps.{admit, run, preempt, block, wake, setAffinity, offline}
-use Rattle.sched.specs.Elements.{pcpuRead, effectOf, stores}
+use Rattle.sched.specs.declared.Frame.{Frame}
+use Rattle.sched.specs.RequestInPlace.{pcpuRead, effectOf, stores}
 
 -- a vCPU in a state, with a mask; it ran for 7 ticks and was dispatched at 100
 abbrev vcpu : RunState → ℕ → VirtualCpu
@@ -129,17 +130,25 @@ effects =
     ∷ rows (masks ((setAffinity host 0 2 (2 ^ 64 - 1)) .system)) (3 ∷ 1 ∷ 3 ∷ [])
     ∷ []
 
--- ---- by elements
+-- ---- in place
 
--- on a host of 2 domains of 3 vCPUs on 2 pCPUs, a request of d/v that admits pCPU 1 alone, where the pCPU that it reads is held so: the
+-- 2 domains of 3 vCPUs on 2 pCPUs
+abbrev frame : Bool → Frame
+frame sound = record { sound = sound; «domain_count» = 2; «vcpus_per_domain» = 3; «pcpu_count» = 2 }
+
+-- there a request of d/v that admits pCPU 1 alone, where the pCPU that it reads is held so: the
 -- number told, the state and the run time, and who holds the pCPU
 abbrev after : Bool → ℕ → ℕ → Request → RunState → Occupant → List ℕ
 after sound d v q st o =
-    let a = effectOf sound 2 3 2 d v q (vcpu st 2) (record { occupant = o }) in
+    let a = effectOf (frame sound) d v q (vcpu st 2) (record { occupant = o }) in
     told (stores host 0 0 a) ∷ state (a .vcpu .state) ∷ a .vcpu .runtime ∷ holder (a .pcpu .occupant) ∷ []
 
-abbrev pub elements : List Row
-elements =
+-- the mask that is stored
+abbrev mask : ℕ → RunState → ℕ
+mask m st = (effectOf (frame true) 1 2 (Request.SetAffinity m) (vcpu st 2) (record { occupant = Idle })) .vcpu .affinity
+
+abbrev pub in-place : List Row
+in-place =
     -- the pCPU that a run asks for, else the one that the vCPU is on; past the table one of it
     rows (pcpuRead (Request.Run 3 0) (vcpu (Running 5) 2) ∷ pcpuRead (Request.Run 67 0) (vcpu Runnable 2) ∷ []) (3 ∷ 3 ∷ [])
     ∷ rows (pcpuRead (Request.Block 0) (vcpu (Running 5) 2) ∷ pcpuRead (Request.Block 0) (vcpu (Running 69) 2) ∷ []) (5 ∷ 5 ∷ [])
@@ -154,9 +163,11 @@ elements =
     ∷ rows (after true 1 2 (Request.Run 1 120) Runnable Idle) (0 ∷ 2 ∷ 7 ∷ 13 ∷ [])
     ∷ rows (after true 1 2 (Request.Run 1 120) Runnable (Vcpu 0 1)) (5 ∷ 1 ∷ 7 ∷ 2 ∷ [])
     ∷ rows (after true 1 2 (Request.Block 120) (Running 1) (Vcpu 1 2)) (0 ∷ 3 ∷ 27 ∷ 0 ∷ [])
+    -- a new mask is stored clipped to the 2 pCPUs; the mask stays where it would strand the vCPU
+    ∷ rows (mask (2 ^ 64 - 1) Runnable ∷ mask 5 Blocked ∷ mask 5 (Running 1) ∷ []) (3 ∷ 1 ∷ 2 ∷ [])
     ∷ []
 
-pub due : AllDue (orders ++ effects ++ elements)
+pub due : AllDue (orders ++ effects ++ in-place)
 unfolding vcpuAt occupantAt fresh putVcpu putOccupant slotViolation pcpuViolation earliest firstViolation invariantsHold dispatched left
     applied requested offlineFirst offlineAll effectOf
 due = refl

@@ -2,17 +2,16 @@
 use Prim.Native.Nat.{ℕ, zero, suc, _/_, _%_}
 use mathlib.Core.Bool.{Bool, cond}
 use lib.Dec.{ltb}
-use Rattle.masks.specs.Masks.{clipped}
 use Rattle.system.specs.declared.Occupant.the-variants.{Idle, Vcpu}
 use Rattle.system.specs.declared.System.{System}
 use Rattle.system.specs.declared.Answer.{Answer}
 use Rattle.system.specs.declared.Answer.the-variants.{Done, BadDomain, BadVcpu, BadPcpu, PcpuBusy, Unsound}
 use Rattle.system.specs.Answers.{told, SystemOutcome}
-use Rattle.system.specs.Reads.{vcpuAt, occupantAt, isIdle, vcpuCount, fullAffinity}
+use Rattle.system.specs.Reads.{vcpuAt, occupantAt, isIdle, vcpuCount}
 use Rattle.system.specs.Writes.{putVcpu, putOccupant}
 use Rattle.system.specs.Slots.{domains, vcpus, pcpus, slot}
 use Rattle.verdict.specs.Violations.{invariantsHold}
-use Rattle.changes.specs.declared.Request.{Request}
+use Rattle.calls.specs.declared.Request.{Request}
 use Rattle.changes.specs.declared.Change.{Change}
 use Rattle.changes.specs.declared.Change.the-variants.{Refuse, Write, Enter, Leave}
 use Rattle.changes.specs.Changes.{changed, reaches}
@@ -38,7 +37,7 @@ applied s i (Leave v p) = done (putOccupant (putVcpu s i v) p Idle)
 
 -- a request of the vCPU at slot i: the state and the mask are tested by its change, who holds the pCPU as the change is applied
 abbrev pub changeOf : System → ℕ → Request → Change
-changeOf s i q = changed q (fullAffinity s) (vcpuAt s i)
+changeOf s i q = changed q (s .«pcpu_count») (vcpuAt s i)
 
 abbrev pub made : System → ℕ → Request → SystemOutcome
 made s i q = applied s i (changeOf s i q)
@@ -69,7 +68,7 @@ abbrev pub wake : System → ℕ → ℕ → SystemOutcome
 wake s d v = requested s d v Request.Wake
 
 abbrev pub setAffinity : System → ℕ → ℕ → ℕ → SystemOutcome
-setAffinity s d v m = requested s d v (Request.SetAffinity (clipped m (s .«pcpu_count»)))
+setAffinity s d v m = requested s d v (Request.SetAffinity m)
 
 abbrev pub offline : System → ℕ → ℕ → ℕ → SystemOutcome
 offline s d v now = requested s d v (Request.Offline now)

@@ -5,22 +5,23 @@ ghost use mathlib.Core.Path.{_≡_};
 ghost use Rattle.system.specs.Answers.{systemOutcome};
 ghost use Rattle.sched.specs.Steps.{refused, requested, admit, run, preempt, block, wake};
 ghost use Rattle.sched.specs.Steps.{setAffinity, offline, offlineAll};
-ghost use Rattle.sched.specs.Elements.{pcpuRead, kept, effectOf};
+ghost use Rattle.sched.specs.RequestInPlace.{pcpuRead, effectOf};
+use calls::Request;
 use changes::After;
-use changes::Request;
+use changes::kept;
 use system::Answer;
 use system::DomId;
 use system::Occupant;
 use system::Pcpu;
 use system::PhysicalCpu;
-use system::Stepped;
 use system::System;
 use system::Ticks;
+use system::Transitioned;
 use system::Vcpu;
 use system::VirtualCpu;
 use system::least;
 
-// ---- a request by the elements that it reads: a caller that holds a system can step it in place
+// ---- a request by the records that it reads: a caller that holds a system can step it in place
 
 /// The pCPU that a request may move its vCPU onto or off, as an index of the table: the one a run
 /// asks for, else the one that the vCPU is on.
@@ -38,32 +39,32 @@ pub fn pcpu_read(request: Request, v: VirtualCpu) -> usize
     }
 }
 
-// A refusal hands the records back as they are.
-fn kept(answer: Answer, v: VirtualCpu, c: PhysicalCpu) -> After
-    ensures { λ r. ⌜ r ≡ kept answer v c ⌝ }
-{
-    After {
-        answer,
-        vcpu: v,
-        pcpu: c,
-    }
+/// What a request needs of a system beside the records that it reads.
+pub struct Frame {
+    pub sound: bool,
+    pub domain_count: usize,
+    pub vcpus_per_domain: usize,
+    pub pcpu_count: usize,
 }
 
-/// What a request of vCPU dom/vcpu tells, and what it leaves of the records that it reads, on a host
-/// of that soundness and shape.
+/// What a request of vCPU dom/vcpu tells, and what it leaves of the records that it reads.
 pub fn effect_of(
-    sound: bool,
-    domain_count: usize,
-    vcpus_per_domain: usize,
-    pcpu_count: usize,
+    frame: Frame,
     dom: DomId,
     vcpu: Vcpu,
     request: Request,
     v: VirtualCpu,
     c: PhysicalCpu,
 ) -> After
-    ensures { λ r. ⌜ r ≡ effectOf sound «domain_count» «vcpus_per_domain» «pcpu_count» dom vcpu request v c ⌝ }
+    ensures { λ r. ⌜ r ≡ effectOf frame dom vcpu request v c ⌝ }
 {
+    let Frame {
+        sound,
+        domain_count,
+        vcpus_per_domain,
+        pcpu_count,
+        ..
+    } = frame;
     let d = dom as usize;
     let u = vcpu as usize;
     let reached = changes::reaches(request, pcpu_count);
@@ -79,21 +80,21 @@ pub fn effect_of(
     if vcpus_per_domain <= u {
         return kept(Answer::BadVcpu, v, c);
     }
-    let change = changes::changed(request, v, masks::full_mask(pcpu_count));
+    let change = changes::changed(request, v, pcpu_count);
     changes::stored(change, Occupant::Vcpu { dom, vcpu }, v, c)
 }
 
 // ---- the calls
 
-fn refused(answer: Answer, s: System) -> Stepped
+fn refused(answer: Answer, s: System) -> Transitioned
     ensures { λ r. ⌜ systemOutcome r ≡ refused answer s ⌝ }
 {
-    Stepped { answer, system: s }
+    Transitioned { answer, system: s }
 }
 
-// One request of one vCPU. The system is tested here: handed to a function of its own it would be copied.
-// So it would at a second exit.
-fn requested(mut s: System, dom: DomId, vcpu: Vcpu, request: Request) -> Stepped
+/// One request of one vCPU: the records that it reads are read, and stored as it leaves them.
+// The system is tested here: handed to a function of its own it would be copied, which takes a sixth of a call.
+pub fn requested(mut s: System, dom: DomId, vcpu: Vcpu, request: Request) -> Transitioned
     ensures { λ r. ⌜ systemOutcome r ≡ requested s dom vcpu request ⌝ }
 {
     let d = s.domain_count;
@@ -119,104 +120,111 @@ fn requested(mut s: System, dom: DomId, vcpu: Vcpu, request: Request) -> Stepped
     if running != system::busy_in(pcpus, m) {
         sound = false;
     }
+    let frame = Frame {
+        sound,
+        domain_count: d,
+        vcpus_per_domain: k,
+        pcpu_count: m,
+    };
     let j = system::slot_read(dom, vcpu);
     let v = s.vcpus[j];
     let p = pcpu_read(request, v);
     let c = s.pcpus[p];
     let After {
-        answer,
         vcpu: w,
         pcpu: h,
-    } = effect_of(sound, d, k, m, dom, vcpu, request, v, c);
+        answer,
+        ..
+    } = effect_of(frame, dom, vcpu, request, v, c);
     s.vcpus[j] = w;
     s.pcpus[p] = h;
-    Stepped { answer, system: s }
+    Transitioned { answer, system: s }
 }
 
 /// Offline to Runnable.
-pub fn admit(s: System, dom: DomId, vcpu: Vcpu) -> Stepped
+pub fn admit(s: System, dom: DomId, vcpu: Vcpu) -> Transitioned
     ensures { λ r. ⌜ systemOutcome r ≡ admit s dom vcpu ⌝ }
 {
     requested(s, dom, vcpu, Request::Admit)
 }
 
 /// Runnable to Running, on an idle pCPU that the mask admits.
-pub fn run(s: System, dom: DomId, vcpu: Vcpu, pcpu: Pcpu, now: Ticks) -> Stepped
+pub fn run(s: System, dom: DomId, vcpu: Vcpu, pcpu: Pcpu, now: Ticks) -> Transitioned
     ensures { λ r. ⌜ systemOutcome r ≡ run s dom vcpu pcpu now ⌝ }
 {
     requested(s, dom, vcpu, Request::Run { pcpu, now })
 }
 
 /// Running to Runnable.
-pub fn preempt(s: System, dom: DomId, vcpu: Vcpu, now: Ticks) -> Stepped
+pub fn preempt(s: System, dom: DomId, vcpu: Vcpu, now: Ticks) -> Transitioned
     ensures { λ r. ⌜ systemOutcome r ≡ preempt s dom vcpu now ⌝ }
 {
     requested(s, dom, vcpu, Request::Preempt { now })
 }
 
 /// Runnable or Running to Blocked.
-pub fn block(s: System, dom: DomId, vcpu: Vcpu, now: Ticks) -> Stepped
+pub fn block(s: System, dom: DomId, vcpu: Vcpu, now: Ticks) -> Transitioned
     ensures { λ r. ⌜ systemOutcome r ≡ block s dom vcpu now ⌝ }
 {
     requested(s, dom, vcpu, Request::Block { now })
 }
 
 /// Blocked to Runnable.
-pub fn wake(s: System, dom: DomId, vcpu: Vcpu) -> Stepped
+pub fn wake(s: System, dom: DomId, vcpu: Vcpu) -> Transitioned
     ensures { λ r. ⌜ systemOutcome r ≡ wake s dom vcpu ⌝ }
 {
     requested(s, dom, vcpu, Request::Wake)
 }
 
 /// A new mask, clipped to the pCPUs of the system.
-pub fn set_affinity(s: System, dom: DomId, vcpu: Vcpu, affinity: u64) -> Stepped
+pub fn set_affinity(s: System, dom: DomId, vcpu: Vcpu, affinity: u64) -> Transitioned
     ensures { λ r. ⌜ systemOutcome r ≡ setAffinity s dom vcpu affinity ⌝ }
 {
-    let mask = masks::clip(affinity, s.pcpu_count);
-    requested(s, dom, vcpu, Request::SetAffinity { mask })
+    requested(s, dom, vcpu, Request::SetAffinity { mask: affinity })
 }
 
 /// Any live state to Offline.
-pub fn offline(s: System, dom: DomId, vcpu: Vcpu, now: Ticks) -> Stepped
+pub fn offline(s: System, dom: DomId, vcpu: Vcpu, now: Ticks) -> Transitioned
     ensures { λ r. ⌜ systemOutcome r ≡ offline s dom vcpu now ⌝ }
 {
     requested(s, dom, vcpu, Request::Offline { now })
 }
 
 /// Every vCPU of a domain to Offline; those that are Offline stay as they are.
-pub fn offline_all(mut s: System, dom: DomId, now: Ticks) -> Stepped
+pub fn offline_all(mut s: System, dom: DomId, now: Ticks) -> Transitioned
     ensures { λ r. ⌜ systemOutcome r ≡ offlineAll s dom now ⌝ }
 {
     if !verdict::invariants_hold(s) {
         return refused(Answer::Unsound, s);
     }
-    let d = dom as usize;
-    if s.domain_count <= d {
+    if s.domain_count <= dom as usize {
         return refused(Answer::Done, s);
     }
-    let full = masks::full_mask(s.pcpu_count);
     let n = s.vcpus_per_domain;
+    let frame = Frame {
+        sound: true,
+        domain_count: s.domain_count,
+        vcpus_per_domain: n,
+        pcpu_count: s.pcpu_count,
+    };
     let mut u: usize = 0;
     while u < n {
-        let i = d * 8 + u;
+        let vcpu = u as u32;
+        let request = Request::Offline { now };
+        let i = system::slot_read(dom, vcpu);
         let v = s.vcpus[i];
-        let change = changes::changed(Request::Offline { now }, v, full);
-        let p = changes::pcpu_of(change);
+        let p = pcpu_read(request, v);
         let c = s.pcpus[p];
-        let who = Occupant::Vcpu {
-            dom,
-            vcpu: u as u32,
-        };
         let After {
-            answer: _,
             vcpu: w,
             pcpu: h,
-        } = changes::stored(change, who, v, c);
+            ..
+        } = effect_of(frame, dom, vcpu, request, v, c);
         s.vcpus[i] = w;
         s.pcpus[p] = h;
         u += 1;
     }
-    Stepped {
+    Transitioned {
         answer: Answer::Done,
         system: s,
     }

@@ -1,3 +1,2 @@
-pub mod Laws
 mod ReplayLoop
-mod Tasks
+mod InPlace

@@ -14,14 +14,11 @@ use Rattle.host.specs.declared.Outcome.{Outcome}
 use Rattle.host.specs.Outcomes.{HostOutcome, hostOutcome}
 use Rattle.records.specs.declared.Plan.{Plan}
 use Rattle.records.specs.Records.{planOf}
-use Rattle.text.specs.Lines.{answerLine}
-use Rattle.text.specs.Places.{put, Placed, placed-then}
+use Rattle.text.specs.Lines.{answerLine, answerRoom}
+use Rattle.text.specs.Places.{Placed, placed-then}
+use Rattle.host_text.specs.HostText.{hostText}
 use Rattle.script.specs.declared.Script.{Script}
-use Rattle.script.specs.HostText.{hostText}
-use Rattle.script.specs.Script.{carried, builtAfter, scriptNext, lineTold, hostShown, entry, scriptAfter, text, room}
-
-abbrev pub scriptOf : ℕ → Bool → Host → Script
-scriptOf number built h = record { number = number; built = built; host = h }
+use Rattle.script.specs.Script.{carried, builtAfter, scriptNext, lineTold, hostShown, entry, scriptAfter, text, entryRoom, room, scriptOf}
 
 -- what is left of the bytes, as a part of a slice
 pub left-of : (bs : List ℕ) (from : ℕ) → take (length bs - from) (drop from bs) ≡ drop from bs
@@ -58,11 +55,11 @@ unfolding text entry
 text-more states c bs i p l q r = placed-then zero-le p (placed-then l q r)
 
 -- the host is shown where it is asked for and there is one
-pub shown : (states : Bool) (c : Script) (b : Bool) → b ≡ states && c .built → b ≡ true → hostText (c .host) ≡ hostShown states c
-shown states c b e f = sym (ap (λ (a : Bool). cond a (hostText (c .host)) []) (sym e ∙ f))
+pub shown : (states : Bool) (c : Script) (b : Bool) → b ≡ states && c .built → b ≡ true → hostText (c .host .system) (c .host .scheduler) ≡ hostShown states c
+shown states c b e f = sym (ap (λ (a : Bool). cond a (hostText (c .host .system) (c .host .scheduler)) []) (sym e ∙ f))
 
 pub hidden : (states : Bool) (c : Script) (b : Bool) → b ≡ states && c .built → b ≡ false → [] ≡ hostShown states c
-hidden states c b e f = sym (ap (λ (a : Bool). cond a (hostText (c .host)) []) (sym e ∙ f))
+hidden states c b e f = sym (ap (λ (a : Bool). cond a (hostText (c .host .system) (c .host .scheduler)) []) (sym e ∙ f))
 
 pub room-more : (i r w : ℕ) → w ≤ i * r + r → w ≤ (i + 1) * r
 room-more i r w h = subst (λ (n : ℕ). w ≤ n) (sym (ap (λ (j : ℕ). j * r) (add-one i) ∙ suc-mul i r)) h
@@ -74,16 +71,10 @@ room-taken n l room i w h k b = omega (arith, div-mul-le-self l room, mul-le-mul
 pub room-left : (n l room i w : ℕ) → n ≤ l / room → i < n → w ≤ i * room → w + room ≤ l
 room-left n l room i w h k b = room-taken n l room (i + 1) (w + room) h (omega arith) (room-more i room (w + room) (omega arith))
 
-pub room-least : (states : Bool) → 63 ≤ room states
+pub room-least : (states : Bool) → answerRoom ≤ room states
 room-least true = omega arith
 room-least false = omega arith
 
-pub room-asked : (states b x : Bool) → b ≡ states && x → b ≡ true → room states ≡ 28700
+pub room-asked : (states b x : Bool) → b ≡ states && x → b ≡ true → room states ≡ entryRoom
 room-asked true b x e f = refl
 room-asked false b x e f = absurd (false≢true (sym e ∙ f))
-
--- the same text, bytes and end, under other names
-pub placed-as : {before t t′ after after′ : List ℕ} {at end end′ : ℕ} → Placed before at t after end → t ≡ t′ → after′ ≡ after → end′ ≡ end
-    → Placed before at t′ after′ end′
-placed-as {before} {at = at} p e f g =
-    record { bytes = f ∙ p .bytes ∙ ap (put before at) e; past = g ∙ p .past ∙ ap (λ (u : List ℕ). at + length u) e }

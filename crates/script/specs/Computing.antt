@@ -4,7 +4,7 @@ use Rattle.big_endian.specs.Numbers.{bytes, number}
 use Rattle.records.specs.Records.{planOf}
 use Rattle.text.specs.Ascii.{ascii}
 use Rattle.text.specs.Lines.{digits, decimal, field, fields, answerLine, numbersLine, pcpuLine}
-use Rattle.script.specs.HostText.{vcpuRows, pcpuRows, hostText}
+use Rattle.host_text.specs.HostText.{vcpuRows, pcpuRows, hostText}
 use Rattle.script.specs.Script.{carried, scriptNext, entry, scriptAfter, text}
 
 unfoldable pub replaying : Type 0

@@ -1,8 +1,6 @@
-pub mod HostText
 pub mod Script
 pub mod NoCall
-pub mod Internal
-pub mod Laws
+pub mod InStretches
 pub mod NoCallLaws
 pub mod Computing
 pub mod Example

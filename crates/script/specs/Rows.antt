@@ -8,7 +8,7 @@ use Rattle.rows.specs.Rows.{Row, rows, AllDue}
 use Rattle.records.specs.Bytes.{bytesOf}
 use Rattle.text.specs.Ascii.{ascii}
 use Rattle.script.specs.Computing.{replaying}
-use Rattle.script.specs.HostText.{hostText}
+use Rattle.host_text.specs.HostText.{hostText}
 use Rattle.script.specs.NoCall.{builtAt, noCallAt}
 use Rattle.script.specs.Script.{begun, scriptAfter, text, recordsIn}
 
@@ -112,7 +112,7 @@ four =
 -- is held: its id and the holder's.
 abbrev pub hosts : List Row
 hosts =
-    rows (hostText ((scriptAfter begun four 9) .host))
+    rows (hostText ((scriptAfter begun four 9) .host .system) ((scriptAfter begun four 9) .host .scheduler))
     (ascii " 0 0 0 64 0 0 3 256 64\n 0 1 1 64 0 0 2 7 64\n 0 2 2 1 100 0 3 256 1\n 0 3 3 64 0 5 3 256 0\n p 1 0 2\n")
     -- after each record that leaves a host, and not before
     ∷ rows (traced (all (admit ∷ build 2 1 1 ∷ []))) (ascii "1 9 0\n2 0 0\n 0 0 0 64 0 0 1 256 64\n 1 0 0 64 0 0 1 256 64\n")

@@ -4,17 +4,19 @@ use mathlib.Core.Bool.{Bool, true, false, cond, _&&_}
 use mathlib.Core.Path.{_≡_}
 use mathlib.Core.List.{List, [], _++_}
 use lib.ListN.{length, drop}
+use Rattle.system.specs.declared.System.{System}
 use Rattle.system.specs.Answers.{told}
+use Rattle.policy.specs.declared.Scheduler.{Scheduler}
 use Rattle.host.specs.declared.Host.{Host}
 use Rattle.host.specs.Step.{step, freshHost}
 use Rattle.host.specs.Outcomes.{HostOutcome, stepCounted, builtHost}
 use Rattle.records.specs.declared.Plan.{Plan}
 use Rattle.records.specs.Records.{planOf}
-use Rattle.text.specs.Lines.{answerLine}
+use Rattle.text.specs.Lines.{answerLine, answerRoom}
 use Rattle.text.specs.Places.{Placed}
+use Rattle.host_text.specs.HostText.{hostText}
 use Rattle.script.specs.declared.Script.{Script}
 use Rattle.script.specs.declared.Taken.{Taken}
-use Rattle.script.specs.HostText.{hostText}
 
 -- a script of which nothing was read: no host is built yet
 abbrev pub begun : Script
@@ -52,7 +54,7 @@ lineTold c bs = answerLine ((c .number + 1) % 2 ^ 64) ((answered c bs) .number) 
 
 -- the host after it, where it is asked for and there is one
 abbrev pub hostShown : Bool → Script → List ℕ
-hostShown states c = cond (states && c .built) (hostText (c .host)) []
+hostShown states c = cond (states && c .built) (hostText (c .host .system) (c .host .scheduler)) []
 
 unfoldable pub entry : Bool → Script → List ℕ → List ℕ
 entry states c bs = lineTold c bs ++ hostShown states (scriptNext c bs)
@@ -70,18 +72,27 @@ text states c bs (suc n) = text states c bs n ++ entry states (scriptAfter c bs 
 abbrev pub recordsIn : List ℕ → ℕ
 recordsIn bs = (length bs + 19) / 20
 
--- the most bytes that a record's text takes
+-- the most bytes that a record's text takes: where the host is written too, a round number above what it takes with the line
+abbrev pub entryRoom : ℕ
+entryRoom = 28700
+
 abbrev pub room : Bool → ℕ
-room true = 28700
-room false = 63
+room true = entryRoom
+room false = answerRoom
 
 -- as many records as there are, and as there is room for
 abbrev pub taken : Bool → List ℕ → List ℕ → ℕ
 taken states bs out = min (recordsIn bs) (length out / room states)
 
+-- what is handed back, by its parts
+abbrev pub hostWith : System → Scheduler → Host
+hostWith s π = record { system = s; scheduler = π }
+
+abbrev pub scriptOf : ℕ → Bool → Host → Script
+scriptOf number built h = record { number = number; built = built; host = h }
+
 abbrev pub takenOf : ℕ → Bool → Host → ℕ → ℕ → Taken
-takenOf number built h records written =
-    record { script = record { number = number; built = built; host = h }; records = records; written = written }
+takenOf number built h records written = record { script = scriptOf number built h; records = records; written = written }
 
 -- what a replay of n records hands back, and what it leaves of the bytes that it writes over
 pub record Replayed (states : Bool) (c : Script) (bs : List ℕ) (n : ℕ) (before : List ℕ) (r : Taken) (out : List ℕ) : Type 0 where

@@ -2,39 +2,31 @@
 //! is asked for, the whole host after it.
 
 ghost use mathlib.Core.Path.{_≡_};
-ghost use mathlib.Core.Bool.{_&&_};
-ghost use mathlib.Core.Bool.{true, false};
+ghost use mathlib.Core.Bool.{true, false, _&&_};
 ghost use Prim.Native.Nat.{ℕ, _+_, _*_, _/_, _≤_, _<_};
 ghost use lib.ListN.{length, drop};
 ghost use Rattle.system.specs.Answers.{told};
-ghost use Rattle.system.specs.Slots.{domains, pcpus};
+ghost use Rattle.verdict.specs.Violations.{invariantsHold};
+ghost use Rattle.sched.specs.RequestInPlace.{framed};
 ghost use Rattle.host.specs.Outcomes.{hostOutcome, builtHost};
 ghost use Rattle.records.specs.Records.{planOf};
-ghost use Rattle.text.specs.Lines.{answerLine};
+ghost use Rattle.text.specs.Lines.{answerLine, answerRoom};
 ghost use Rattle.text.specs.Places.{Placed};
-ghost use Rattle.script.specs.HostText.{stateNumber, pcpuNumber, clockNumber, slotRow, pcpuRow, vcpuRows, pcpuRows, hostText};
-ghost use Rattle.script.specs.Script.{begun, carried, builtAfter, recordsIn, room, taken, takenOf, Replayed};
+ghost use Rattle.script.specs.Script.{begun, builtAfter, recordsIn, room, taken, hostWith, takenOf, Replayed};
 ghost use Rattle.script.specs.NoCall.{isNoCall, noCallAt};
-ghost use Rattle.script.specs.Internal.{hostOf, taskOfCall, taskOf};
-use changes::After;
-use changes::Request;
-use host::Call;
+use calls::Call;
 use host::Host;
 use host::Outcome;
 use policy::Scheduler;
-use policy::Weight;
 use records::Plan;
 use records::Shape;
+use sched::Frame;
 use system::Answer;
-use system::DomId;
-use system::Occupant;
-use system::PhysicalCpu;
-use system::RunState;
 use system::System;
-use system::Ticks;
-use system::Vcpu;
-use system::VirtualCpu;
 use system::least;
+
+/// The most bytes that a record's text takes where the host is written too.
+pub const ENTRY_ROOM: usize = 28_700;
 
 /// A script that is under way: how many records it had, and its host, once one is built.
 pub struct Script {
@@ -78,79 +70,14 @@ fn built_of(shape: Shape) -> Outcome
     )
 }
 
-// What a host is told, by value.
-fn carried(h: Host, plan: Plan) -> Outcome
-    ensures { λ r. ⌜ hostOutcome r ≡ carried h plan ⌝ }
+fn frame_of(s: System) -> Frame
+    ensures { λ r. ⌜ r ≡ framed s (invariantsHold s) ⌝ }
 {
-    match plan {
-        Plan::Refuse(answer) => Outcome {
-            host: h,
-            count: 0,
-            answer,
-        },
-        Plan::Build(shape) => built_of(shape),
-        Plan::Call(call) => host::step(h, call),
-    }
-}
-
-// What a record touches: the records of one vCPU, an account, or the whole host; an advance is by itself.
-enum Task {
-    Ask {
-        dom: DomId,
-        vcpu: Vcpu,
-        request: Request,
-    },
-    Weigh {
-        dom: DomId,
-        vcpu: Vcpu,
-        weight: Weight,
-    },
-    Advance {
-        now: Ticks,
-    },
-    Whole,
-}
-
-fn ask(dom: DomId, vcpu: Vcpu, request: Request) -> Task
-    ensures { λ r. ⌜ r ≡ Task.Ask dom vcpu request ⌝ }
-{
-    Task::Ask { dom, vcpu, request }
-}
-
-// What a call touches of a host of so many pCPUs, to which a mask is clipped.
-fn task_of_call(call: Call, pcpu_count: usize) -> Task
-    ensures { λ r. ⌜ r ≡ taskOfCall call «pcpu_count» ⌝ }
-{
-    match call {
-        Call::Admit { dom, vcpu } => ask(dom, vcpu, Request::Admit),
-        Call::Run {
-            dom,
-            vcpu,
-            pcpu,
-            now,
-        } => ask(dom, vcpu, Request::Run { pcpu, now }),
-        Call::Preempt { dom, vcpu, now } => ask(dom, vcpu, Request::Preempt { now }),
-        Call::Block { dom, vcpu, now } => ask(dom, vcpu, Request::Block { now }),
-        Call::Wake { dom, vcpu } => ask(dom, vcpu, Request::Wake),
-        Call::Offline { dom, vcpu, now } => ask(dom, vcpu, Request::Offline { now }),
-        Call::OfflineAll { dom: _, now: _ } => Task::Whole,
-        Call::SetAffinity { dom, vcpu, mask } => {
-            let clipped = masks::clip(mask, pcpu_count);
-            ask(dom, vcpu, Request::SetAffinity { mask: clipped })
-        }
-        Call::SetWeight { dom, vcpu, weight } => Task::Weigh { dom, vcpu, weight },
-        Call::SetWakeBoost { enabled: _ } => Task::Whole,
-        Call::Advance { now } => Task::Advance { now },
-    }
-}
-
-fn task_of(plan: Plan, pcpu_count: usize) -> Task
-    ensures { λ r. ⌜ r ≡ taskOf plan «pcpu_count» ⌝ }
-{
-    match plan {
-        Plan::Refuse(_) => Task::Whole,
-        Plan::Build(_) => Task::Whole,
-        Plan::Call(call) => task_of_call(call, pcpu_count),
+    Frame {
+        sound: verdict::invariants_hold(s),
+        domain_count: s.domain_count,
+        vcpus_per_domain: s.vcpus_per_domain,
+        pcpu_count: s.pcpu_count,
     }
 }
 
@@ -165,130 +92,11 @@ fn built_after(built: bool, plan: Plan) -> bool
 }
 
 fn put_answer(out: &mut [u8], at: usize, number: u64, answer: Answer, moves: usize) -> usize
-    requires { ⌜ at + 63 ≤ length (now out) ⌝ }
+    requires { ⌜ at + answerRoom ≤ length (now out) ⌝ }
     ensures { λ r. ⌜ Placed (now (out .entry)) at (answerLine number (told answer) moves) (now (out .exit)) r ⌝ }
-    ensures { λ r. ⌜ r ≤ at + 63 ⌝ }
+    ensures { λ r. ⌜ r ≤ at + answerRoom ⌝ }
 {
     text::put_answer_line(out, at, number, system::number_of(answer), moves as u64)
-}
-
-// ---- the host after it
-
-fn state_number(state: RunState) -> u64
-    ensures { λ r. ⌜ r ≡ stateNumber state ⌝ }
-{
-    match state {
-        RunState::Offline => 0,
-        RunState::Runnable => 1,
-        RunState::Running { pcpu: _ } => 2,
-        RunState::Blocked => 3,
-    }
-}
-
-fn pcpu_number(state: RunState) -> u64
-    ensures { λ r. ⌜ r ≡ pcpuNumber state ⌝ }
-{
-    match state {
-        RunState::Offline => 64,
-        RunState::Runnable => 64,
-        RunState::Running { pcpu } => pcpu as u64,
-        RunState::Blocked => 64,
-    }
-}
-
-fn clock_number(dispatched_at: u64, state: RunState) -> u64
-    ensures { λ r. ⌜ r ≡ clockNumber «dispatched_at» state ⌝ }
-{
-    match state {
-        RunState::Offline => 0,
-        RunState::Runnable => 0,
-        RunState::Running { pcpu: _ } => dispatched_at,
-        RunState::Blocked => 0,
-    }
-}
-
-// The line of slot i, where a domain has k vCPUs.
-fn put_vcpu(out: &mut [u8], at: usize, i: usize, k: usize, v: VirtualCpu, weight: u32) -> usize
-    requires { ⌜ at + 190 ≤ length (now out) ⌝ }
-    ensures { λ r. ⌜ Placed (now (out .entry)) at (slotRow k i v weight) (now (out .exit)) r ⌝ }
-    ensures { λ r. ⌜ r ≤ at + 190 ⌝ }
-{
-    if k <= i % 8 {
-        return at;
-    }
-    let state = v.state;
-    let numbers = [
-        (i / 8) as u64,
-        (i % 8) as u64,
-        state_number(state),
-        pcpu_number(state),
-        clock_number(v.dispatched_at, state),
-        v.runtime,
-        v.affinity,
-        weight as u64,
-        v.last as u64,
-    ];
-    let line = text::numbers_line(&numbers);
-    text::append(out, at, line)
-}
-
-fn put_pcpu(out: &mut [u8], at: usize, p: usize, c: PhysicalCpu) -> usize
-    requires { ⌜ at + 66 ≤ length (now out) ⌝ }
-    ensures { λ r. ⌜ Placed (now (out .entry)) at (pcpuRow p (c .occupant)) (now (out .exit)) r ⌝ }
-    ensures { λ r. ⌜ r ≤ at + 66 ⌝ }
-{
-    let occupant = c.occupant;
-    match occupant {
-        Occupant::Idle => at,
-        Occupant::Vcpu { dom, vcpu } => {
-            let line = text::pcpu_line(p as u64, dom as u64, vcpu as u64);
-            text::append(out, at, line)
-        }
-    }
-}
-
-fn put_vcpus(out: &mut [u8], at: usize, s: System, p: Scheduler) -> usize
-    requires { ⌜ at + 24320 ≤ length (now out) ⌝ }
-    ensures { λ r. ⌜ Placed (now (out .entry)) at (vcpuRows s p (domains s * 8)) (now (out .exit)) r ⌝ }
-    ensures { λ r. ⌜ r ≤ at + 24320 ⌝ }
-{
-    let n = least(s.domain_count, system::MAX_DOMAINS) * 8;
-    let k = least(s.vcpus_per_domain, system::MAX_VCPUS);
-    let mut past = at;
-    let mut i: usize = 0;
-    while i < n {
-        let v = s.vcpus[i];
-        let a = p.accounts[i];
-        let account = policy::looked_up(p.domain_count, p.vcpus_per_domain, i, a);
-        past = put_vcpu(out, past, i, k, v, policy::used_weight(account));
-        i += 1;
-    }
-    past
-}
-
-fn put_pcpus(out: &mut [u8], at: usize, s: System) -> usize
-    requires { ⌜ at + 4224 ≤ length (now out) ⌝ }
-    ensures { λ r. ⌜ Placed (now (out .entry)) at (pcpuRows s (pcpus s)) (now (out .exit)) r ⌝ }
-    ensures { λ r. ⌜ r ≤ at + 4224 ⌝ }
-{
-    let n = least(s.pcpu_count, system::MAX_PCPUS);
-    let mut past = at;
-    let mut p: usize = 0;
-    while p < n {
-        let c = s.pcpus[p];
-        past = put_pcpu(out, past, p, c);
-        p += 1;
-    }
-    past
-}
-
-fn put_host(out: &mut [u8], at: usize, s: System, p: Scheduler) -> usize
-    requires { ⌜ at + 28544 ≤ length (now out) ⌝ }
-    ensures { λ r. ⌜ Placed (now (out .entry)) at (hostText (hostOf s p)) (now (out .exit)) r ⌝ }
-    ensures { λ r. ⌜ r ≤ at + 28544 ⌝ }
-{
-    let past = put_vcpus(out, at, s, p);
-    put_pcpus(out, past, s)
 }
 
 // ---- a stretch of a script
@@ -306,7 +114,11 @@ fn records_in(n: usize) -> usize
 fn room_of(states: bool) -> usize
     ensures { λ r. ⌜ r ≡ room states ⌝ }
 {
-    if states { 28700 } else { 63 }
+    if states {
+        ENTRY_ROOM
+    } else {
+        text::ANSWER_ROOM
+    }
 }
 
 // Whether the host is written: where it is asked for and there is one.
@@ -332,7 +144,7 @@ fn taken_of(
     records: usize,
     written: usize,
 ) -> Taken
-    ensures { λ r. ⌜ r ≡ takenOf number built (hostOf s p) records written ⌝ }
+    ensures { λ r. ⌜ r ≡ takenOf number built (hostWith s p) records written ⌝ }
 {
     Taken {
         script: Script {
@@ -349,8 +161,8 @@ fn taken_of(
 }
 
 // The first n records. The host is stepped here, record by record in place: handed to a function of its
-// own it would be copied, and tested, for each.
-fn stepped(script: Script, bytes: &[u8], out: &mut [u8], states: bool, n: usize) -> Taken
+// own it would be copied, and tested, for each. A call leaves its frame as it was.
+fn replay_in_place(script: Script, bytes: &[u8], out: &mut [u8], states: bool, n: usize) -> Taken
     requires { ⌜ n ≤ taken states (now bytes) (now out) ⌝ }
     ensures { λ r. ⌜ Replayed states script (now (bytes .entry)) n (now (out .entry)) r (now (out .exit)) ⌝ }
 {
@@ -359,79 +171,63 @@ fn stepped(script: Script, bytes: &[u8], out: &mut [u8], states: bool, n: usize)
     let host = script.host;
     let mut s = host.system;
     let mut p = host.scheduler;
-    let mut sound = verdict::invariants_hold(s);
+    let mut frame = frame_of(s);
     let mut written: usize = 0;
     let mut i: usize = 0;
     while i < n {
         let plan = plan_at(built, bytes, i);
-        let task = task_of(plan, s.pcpu_count);
-        let mut answer = Answer::Done;
-        let mut moves: usize = 0;
-        match task {
-            Task::Ask { dom, vcpu, request } => {
-                let j = system::slot_read(dom, vcpu);
-                let v = s.vcpus[j];
-                let q = sched::pcpu_read(request, v);
-                let c = s.pcpus[q];
-                let After {
-                    answer: told,
-                    vcpu: w,
-                    pcpu: d,
-                } = sched::effect_of(
-                    sound,
-                    s.domain_count,
-                    s.vcpus_per_domain,
-                    s.pcpu_count,
-                    dom,
-                    vcpu,
-                    request,
-                    v,
-                    c,
-                );
-                s.vcpus[j] = w;
-                s.pcpus[q] = d;
-                answer = told;
-            }
-            Task::Weigh { dom, vcpu, weight } => {
-                let j = system::slot_read(dom, vcpu);
-                let a = p.accounts[j];
-                p.accounts[j] = policy::weighed(
-                    p.domain_count,
-                    p.vcpus_per_domain,
-                    dom,
-                    vcpu,
-                    weight,
-                    a,
-                );
-            }
-            Task::Advance { now } => {
-                let told = advance::advance(s, p, now);
-                s = told.system;
-                p = told.scheduler;
-                answer = told.answer;
-                moves = told.count;
-            }
-            Task::Whole => {
-                let told = carried(
-                    Host {
-                        system: s,
-                        scheduler: p,
-                    },
-                    plan,
-                );
-                let h = told.host;
-                s = h.system;
-                p = h.scheduler;
-                answer = told.answer;
-                moves = told.count;
-                sound = verdict::invariants_hold(s);
-            }
-        }
         built = built_after(built, plan);
         number = std::num::wrapping_add_u64(number, 1);
+        let mut answer = Answer::Done;
+        let mut moves: usize = 0;
+        match plan {
+            Plan::Refuse(refusal) => answer = refusal,
+            Plan::Build(shape) => {
+                let told = built_of(shape);
+                let host = told.host;
+                s = host.system;
+                p = host.scheduler;
+                answer = told.answer;
+                frame = frame_of(s);
+            }
+            Plan::Call(call) => match call {
+                Call::Ask { dom, vcpu, request } => {
+                    let slot = system::slot_read(dom, vcpu);
+                    let v = s.vcpus[slot];
+                    let pcpu = sched::pcpu_read(request, v);
+                    let cpu = s.pcpus[pcpu];
+                    let told = sched::effect_of(frame, dom, vcpu, request, v, cpu);
+                    let v_after = told.vcpu;
+                    let cpu_after = told.pcpu;
+                    s.vcpus[slot] = v_after;
+                    s.pcpus[pcpu] = cpu_after;
+                    answer = told.answer;
+                }
+                Call::OfflineAll { dom, now } => {
+                    let told = sched::offline_all(s, dom, now);
+                    s = told.system;
+                    answer = told.answer;
+                }
+                Call::SetWeight { dom, vcpu, weight } => {
+                    let domains = p.domain_count;
+                    let vcpus = p.vcpus_per_domain;
+                    let slot = system::slot_read(dom, vcpu);
+                    let a = p.accounts[slot];
+                    p.accounts[slot] = policy::weighed(domains, vcpus, dom, vcpu, weight, a);
+                }
+                Call::SetWakeBoost { enabled } => p = p.set_wake_boost(enabled),
+                Call::Advance { now } => {
+                    let told = advance::advance(s, p, now);
+                    s = told.system;
+                    p = told.scheduler;
+                    answer = told.answer;
+                    moves = told.count;
+                }
+            },
+        }
         written = put_answer(out, written, number, answer, moves);
         if is_shown(states, built) {
-            written = put_host(out, written, s, p);
+            written = host_text::put_host(out, written, s, p);
         }
         i += 1;
     }
@@ -444,7 +240,7 @@ pub fn replay(script: Script, bytes: &[u8], out: &mut [u8], states: bool) -> Tak
     ensures { λ r. ⌜ Replayed states script (now (bytes .entry)) (taken states (now (bytes .entry)) (now (out .entry))) (now (out .entry)) r (now (out .exit)) ⌝ }
 {
     let n = least(records_in(bytes.len()), out.len() / room_of(states));
-    stepped(script, bytes, out, states, n)
+    replay_in_place(script, bytes, out, states, n)
 }
 
 // ---- records that are no call

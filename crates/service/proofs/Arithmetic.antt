@@ -10,7 +10,7 @@ use lib.Arith.{digits-div}
 use lib.Dec.{lit<}
 use lib.ListN.{length, getD}
 use Rattle.service.specs.Service.{value, limbs}
-use Rattle.service.specs.Internal.{worth, Small, Carries}
+use Rattle.service.specs.Columns.{worth, Small, Carries}
 use Rattle.service.specs.declared.Columns.{Columns}
 
 -- the columns of four limbs

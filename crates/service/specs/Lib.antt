@@ -1,4 +1,4 @@
 pub mod Service
 pub mod Laws
-pub mod Internal
+pub mod Columns
 pub mod Fractions

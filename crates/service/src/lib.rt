@@ -5,7 +5,7 @@ ghost use mathlib.Core.Path.{_≡_};
 ghost use Prim.Native.Nat.{_+_, _*_, _-_, _/_, _%_, _^_, _<_, max};
 ghost use lib.Dec.{ltb};
 ghost use Rattle.service.specs.Service.{value, held, moreDeserving};
-ghost use Rattle.service.specs.Internal.{worth, Small, Roomy, Carries, Splits};
+ghost use Rattle.service.specs.Columns.{worth, Small, Roomy, Carries, Splits};
 
 /// A service, as four limbs, the least first.
 pub type Service = [u32; 4];

@@ -1,5 +1,5 @@
--- Each clause of demand 3 that is of every list, on the largest host, 16 × 8 on 64, at every point of a list of every call.
--- It is written out with the numbers themselves: a clause that said less would not give it. Assumes nothing.
+-- Each clause of demand 3 that is of every list, on the largest host, 16 × 8 on 64, at every point of a list of every
+-- call. It is written out with the numbers themselves: a clause that said less would not give it. Assumes nothing.
 use Prim.Native.Nat.{ℕ, _+_, _-_, _*_, _^_, _≤_, _<_}
 use mathlib.Core.Bool.{true, false, cond, _&&_}
 use mathlib.Core.Path.{_≡_, refl}
@@ -18,75 +18,78 @@ use Rattle.system.specs.declared.MaybeState.{MaybeState}
 use Rattle.system.specs.declared.MaybeU64.{MaybeU64}
 use Rattle.system.specs.States.{whileRunning}
 use Rattle.system.specs.Slots.{domains, pcpus}
-use Rattle.system.specs.Reads.{vcpuAt, occupantAt, vcpuOf, stateOf, isRunning, runtimeOf, onCpuSince, affinityOf, affinityPermits}
+use Rattle.system.specs.Reads.{vcpuAt, occupantAt, vcpuOf, stateOf, isRunning, runtimeOf, onCpuSince, affinityOf}
+use Rattle.system.specs.Reads.{affinityPermits}
 use Rattle.system.specs.Reads.{occupantOf, vcpuCount, fullAffinity, busyPcpus, count}
 use Rattle.verdict.specs.declared.Violation.the-variants.{None}
 use Rattle.verdict.specs.Violations.{firstViolation}
-use Rattle.scan.specs.Scan.{nobody, some}
+use Rattle.scans.specs.Scan.{nobody, some}
 use Rattle.policy.specs.Accounts.{weightOf}
 use Rattle.policy.specs.declared.Scheduler.{Scheduler}
 use Rattle.rules.specs.Settle.{movesOn}
 use Rattle.moves.specs.declared.Choice.{Choice}
 use Rattle.usage.specs.Usage.{usage, sum}
 use Rattle.host.specs.declared.Host.{Host}
-use Rattle.host.specs.declared.Call.{Call}
-use Rattle.host.specs.Step.{step, hostAfter, freshHost}
-use Rattle.demand3.specs.Book.{Line, Book, Shape, blankBook, holder, occupantBy, enter}
+use Rattle.calls.specs.declared.Call.{Call}
+use Rattle.host.specs.Step.{step}
+use Rattle.demand3.specs.Book.{Line, Book, Shape, holder, occupantBy, enter}
 use Rattle.demand3.specs.Agreement.{PresentIn}
-use Rattle.demand3.specs.Lists.{bookAfter, bookService}
-use Rattle.demand3.specs.Demand3.{Demand-3}
+use Rattle.demand3.specs.Lists.{bookService}
+use Rattle.demand3.specs.Fresh.{Fresh, hostAt, bookAt}
+use Rattle.demand3.specs.AfterAdvance.{AfterAdvance}
+use Rattle.demand3.specs.Demand3.{Point}
 use Rattle.demand3.specs.Reads.{ReadsLine, ReadsAgree}
 use Rattle.demand3.specs.Weights.{weightThrough, weightAfter}
-use Rattle.situations.proofs.Extremes.{every-call, largest}
+use Rattle.situations.proofs.Extremes.{every-call, largest-shape, largest-host, largest}
 
 abbrev k : Shape
-k = record { domains = 16; vcpus = 8; pcpus = 64 }
+k = largest-shape
 
 pub present : (i : ℕ) → i < 128 → PresentIn k i
 present i l = record { domain = omega arith; vcpu = omega arith }
 
 -- a policy of any shape, and any slice
 module _ (e u q : ℕ) where
-  abbrev h : Host
-  h = freshHost 16 8 64 e u q
-
-  abbrev bookAt : List Call → Book
-  bookAt before = bookAfter k h (blankBook k) before
-
-  holds : Demand-3 k e u q h every-call
-  holds = largest e u q
+  abbrev f : Fresh
+  f = largest-host e u q
 
   module _ (before rest : List Call) (x : every-call ≡ before ++ rest) where
     abbrev b : Book
-    b = bookAt before
+    b = bookAt f before
+
+    abbrev h : Host
+    h = hostAt f before
 
     abbrev s : System
-    s = (hostAfter h before) .system
+    s = h .system
 
     abbrev π : Scheduler
-    π = (hostAfter h before) .scheduler
+    π = h .scheduler
+
+    point : Point f every-call before
+    point = largest e u q before rest x
 
     -- ---- the system
 
     pub shape-there : (s .«domain_count» ≡ 16) × (s .«vcpus_per_domain» ≡ 8) × (s .«pcpu_count» ≡ 64)
-    shape-there = let a = holds .agrees before rest x .shape in (a .domains, a .vcpus, a .pcpus)
+    shape-there = let a = point .here .agrees .shape in (a .domains, a .vcpus, a .pcpus)
 
     pub lines-there : (i : ℕ) → i < 128
         → ((b i) .state ≡ (vcpuAt s i) .state) × ((b i) .time ≡ (vcpuAt s i) .runtime) × ((b i) .mask ≡ (vcpuAt s i) .affinity)
         × ((p : ℕ) → (vcpuAt s i) .state ≡ Running p → (b i) .clock ≡ (vcpuAt s i) .«dispatched_at»)
-    lines-there i l = let a = holds .agrees before rest x .lines i (present i l) in (a .state, a .time, a .mask, a .clock)
+    lines-there i l = let a = point .here .agrees .lines i (present i l) in (a .state, a .time, a .mask, a .clock)
 
     pub holders-there : (p : ℕ) → p < 64 → occupantAt s p ≡ occupantBy (holder k b p)
-    holders-there = holds .agrees before rest x .holders
+    holders-there = point .here .agrees .holders
 
     pub masks-there : ((i : ℕ) → i < 128 → (b i) .mask < 2 ^ 64)
         × ((d v p : ℕ) → d < 16 → v < 8 → affinityPermits s d v p ≡ bit ((b (d * 8 + v)) .mask) p)
-    masks-there = ((λ i l. holds .masks before rest x i (present i l)), holds .admits before rest x)
+    masks-there = ((λ i l. point .here .masks i (present i l)), point .here .admits)
 
     -- ---- its reads
 
     reads : ReadsAgree k b s
-    reads = holds .reads before rest x
+    reads = point .here .reads
 
     module _ (d v : ℕ) (l : d < 16) (m : v < 8) where
       abbrev here : Line
@@ -126,33 +129,35 @@ module _ (e u q : ℕ) where
     -- ---- the policy
 
     pub policy-there : (π .quantum ≡ q) × ((d v : ℕ) → weightOf π d v ≡ weightAfter e u before d v)
-    policy-there = (holds .slice before rest x, holds .weights before rest x)
+    policy-there = (point .set .slice, point .set .weights)
 
-  -- ---- the next call
+    -- ---- the next call, whichever it is
 
-  pub told-there : (before rest : List Call) (c : Call) → every-call ≡ before ++ (c ∷ rest)
-      → (step (hostAfter h before) c) .number ≡ (enter k (bookAt before) c ((step (hostAfter h before) c) .moves)) .number
-  told-there = holds .told
+    pub told-there : (c : Call) → (step h c) .number ≡ (enter k b c ((step h c) .moves)) .number
+    told-there c = point .call c .told
 
-  -- an advance, where the slice is 1 or more
-  module _ (sliced : 1 ≤ q) (before rest : List Call) (now : ℕ) (x : every-call ≡ before ++ (Call.Advance now ∷ rest)) where
-    abbrev moves : List Choice
-    moves = (step (hostAfter h before) (Call.Advance now)) .moves
+    -- an advance, where the slice is 1 or more
+    module _ (sliced : 1 ≤ q) (now : ℕ) where
+      abbrev moves : List Choice
+      moves = (step h (Call.Advance now)) .moves
 
-    abbrev after : Book
-    after = bookAt (before ++ (Call.Advance now ∷ []))
+      abbrev after : Book
+      after = bookAt f (before ++ (Call.Advance now ∷ []))
 
-    pub moves-there : (length moves ≤ 128) × ((p : ℕ) → p < 64 → movesOn p moves ≤ 2)
-    moves-there = (holds .moves sliced before rest now x, holds .moves-on sliced before rest now x)
+      returned : AfterAdvance k moves after
+      returned = point .advance sliced now
 
-    pub placed-there : (i p : ℕ) → i < 128 → p < 64 → (after i) .state ≡ Runnable → holder k after p ≡ nobody
-        → permits ((after i) .mask) p ≡ true → ⊥
-    placed-there i p l = holds .placed sliced before rest now x i p (present i l)
+      pub moves-there : (length moves ≤ 128) × ((p : ℕ) → p < 64 → movesOn p moves ≤ 2)
+      moves-there = (returned .moves, returned .moves-on)
+
+      pub placed-there : (i p : ℕ) → i < 128 → p < 64 → (after i) .state ≡ Runnable → holder k after p ≡ nobody
+          → permits ((after i) .mask) p ≡ true → ⊥
+      placed-there i p l = returned .placed i p (present i l)
 
 -- ---- the weights that the list leaves: the largest, which is set for the last vCPU; 256 for its neighbours, and outside the shape
 
-pub weights-there : let π = (hostAfter (freshHost 16 8 64 16 8 1) every-call) .scheduler in
+pub weights-there : let π = (hostAt (largest-host 16 8 1) every-call) .scheduler in
     (weightOf π 15 7 ≡ 2 ^ 32 - 1) × (weightOf π 15 6 ≡ 256) × (weightOf π 14 7 ≡ 256) × (weightOf π 16 0 ≡ 256)
     × (weightOf π (2 ^ 16 - 1) (2 ^ 32 - 1) ≡ 256)
 unfolding weightThrough
-weights-there = let w = largest 16 8 1 .weights every-call [] refl in (w 15 7, w 15 6, w 14 7, w 16 0, w (2 ^ 16 - 1) (2 ^ 32 - 1))
+weights-there = let w = largest 16 8 1 every-call [] refl .set .weights in (w 15 7, w 15 6, w 14 7, w 16 0, w (2 ^ 16 - 1) (2 ^ 32 - 1))

@@ -1,5 +1,5 @@
--- Which test of a call comes first, what a host that is too large or damaged is told, and the situations of the requirements that are
--- not in `Situations`, by hand. Assumes nothing.
+-- Which test of a call comes first, what a host that is too large or damaged is told, and the situations of the
+-- requirements that are not in `Situations`, by hand. Assumes nothing.
 use Prim.Native.Nat.{ℕ, _+_}
 use mathlib.Core.Bool.{true}
 use mathlib.Core.Path.{refl}
@@ -16,7 +16,8 @@ use Rattle.policy.specs.Standing.{weightAt}
 use Rattle.policy.specs.Accounting.{accounted}
 use Rattle.advance.specs.Advance.{next}
 use Rattle.host.specs.declared.Host.{Host}
-use Rattle.host.specs.declared.Call.{Call}
+use Rattle.calls.specs.declared.Call.{Call}
+use Rattle.calls.specs.Asked as call
 use Rattle.host.specs.Computing.{computing}
 use Rattle.host.specs.Step.{step, hostAfter, freshHost}
 use Rattle.host.specs.Outcomes.{builtHost}
@@ -33,8 +34,8 @@ count h c = length ((step h c) .moves)
 abbrev mixed : Host
 mixed =
     hostAfter (freshHost 2 3 2 2 3 10)
-    (Call.Admit 0 0 ∷ Call.Run 0 0 0 0 ∷ Call.Admit 0 1 ∷ Call.SetAffinity 0 1 2 ∷ Call.Admit 0 2 ∷ Call.Admit 1 0 ∷ Call.Block 1 0 0
-    ∷ Call.SetAffinity 1 1 2 ∷ [])
+    (call.admit 0 0 ∷ call.run 0 0 0 0 ∷ call.admit 0 1 ∷ call.setAffinity 0 1 2 ∷ call.admit 0 2 ∷ call.admit 1 0 ∷ call.block 1 0 0
+    ∷ call.setAffinity 1 1 2 ∷ [])
 
 -- what a call is told of 9/9, of 9/0, of 1/9, and of 0/8, whose slot would be that of 1/0
 abbrev ids : (ℕ → ℕ → Call) → List ℕ
@@ -47,28 +48,28 @@ states call = told mixed (call 1 1) ∷ told mixed (call 0 2) ∷ told mixed (ca
 -- 1 before 2, both before what is told by the state: 10 Offline, 4 Runnable, 11 Running, 12 Blocked, or 6
 abbrev pub tests : List Row
 tests =
-    rows (ids Call.Admit) (1 ∷ 1 ∷ 2 ∷ 2 ∷ [])
-    ∷ rows (states Call.Admit) (0 ∷ 4 ∷ 11 ∷ 12 ∷ [])
-    ∷ rows (ids (λ d v. Call.Preempt d v 0)) (1 ∷ 1 ∷ 2 ∷ 2 ∷ [])
-    ∷ rows (states (λ d v. Call.Preempt d v 0)) (10 ∷ 4 ∷ 0 ∷ 12 ∷ [])
-    ∷ rows (ids (λ d v. Call.Block d v 0)) (1 ∷ 1 ∷ 2 ∷ 2 ∷ [])
-    ∷ rows (states (λ d v. Call.Block d v 0)) (10 ∷ 0 ∷ 0 ∷ 12 ∷ [])
-    ∷ rows (ids Call.Wake) (1 ∷ 1 ∷ 2 ∷ 2 ∷ [])
-    ∷ rows (states Call.Wake) (10 ∷ 4 ∷ 11 ∷ 0 ∷ [])
-    ∷ rows (ids (λ d v. Call.Offline d v 0)) (1 ∷ 1 ∷ 2 ∷ 2 ∷ [])
-    ∷ rows (states (λ d v. Call.Offline d v 0)) (10 ∷ 0 ∷ 0 ∷ 0 ∷ [])
+    rows (ids call.admit) (1 ∷ 1 ∷ 2 ∷ 2 ∷ [])
+    ∷ rows (states call.admit) (0 ∷ 4 ∷ 11 ∷ 12 ∷ [])
+    ∷ rows (ids (λ d v. call.preempt d v 0)) (1 ∷ 1 ∷ 2 ∷ 2 ∷ [])
+    ∷ rows (states (λ d v. call.preempt d v 0)) (10 ∷ 4 ∷ 0 ∷ 12 ∷ [])
+    ∷ rows (ids (λ d v. call.block d v 0)) (1 ∷ 1 ∷ 2 ∷ 2 ∷ [])
+    ∷ rows (states (λ d v. call.block d v 0)) (10 ∷ 0 ∷ 0 ∷ 12 ∷ [])
+    ∷ rows (ids call.wake) (1 ∷ 1 ∷ 2 ∷ 2 ∷ [])
+    ∷ rows (states call.wake) (10 ∷ 4 ∷ 11 ∷ 0 ∷ [])
+    ∷ rows (ids (λ d v. call.offline d v 0)) (1 ∷ 1 ∷ 2 ∷ 2 ∷ [])
+    ∷ rows (states (λ d v. call.offline d v 0)) (10 ∷ 0 ∷ 0 ∷ 0 ∷ [])
     -- a mask without pCPU 0, and one with it
-    ∷ rows (ids (λ d v. Call.SetAffinity d v 2)) (1 ∷ 1 ∷ 2 ∷ 2 ∷ [])
-    ∷ rows (states (λ d v. Call.SetAffinity d v 2)) (0 ∷ 0 ∷ 6 ∷ 0 ∷ [])
-    ∷ rows (states (λ d v. Call.SetAffinity d v 1)) (0 ∷ 0 ∷ 0 ∷ 0 ∷ [])
+    ∷ rows (ids (λ d v. call.setAffinity d v 2)) (1 ∷ 1 ∷ 2 ∷ 2 ∷ [])
+    ∷ rows (states (λ d v. call.setAffinity d v 2)) (0 ∷ 0 ∷ 6 ∷ 0 ∷ [])
+    ∷ rows (states (λ d v. call.setAffinity d v 1)) (0 ∷ 0 ∷ 0 ∷ 0 ∷ [])
     -- run onto pCPU 2, which is not there; onto pCPU 0, which is busy; onto pCPU 1, which is idle
-    ∷ rows (ids (λ d v. Call.Run d v 2 0)) (3 ∷ 3 ∷ 3 ∷ 3 ∷ [])
-    ∷ rows (states (λ d v. Call.Run d v 2 0)) (3 ∷ 3 ∷ 3 ∷ 3 ∷ [])
-    ∷ rows (ids (λ d v. Call.Run d v 0 0)) (1 ∷ 1 ∷ 2 ∷ 2 ∷ [])
-    ∷ rows (states (λ d v. Call.Run d v 0 0)) (10 ∷ 5 ∷ 11 ∷ 12 ∷ [])
-    ∷ rows (states (λ d v. Call.Run d v 1 0)) (10 ∷ 0 ∷ 11 ∷ 12 ∷ [])
+    ∷ rows (ids (λ d v. call.run d v 2 0)) (3 ∷ 3 ∷ 3 ∷ 3 ∷ [])
+    ∷ rows (states (λ d v. call.run d v 2 0)) (3 ∷ 3 ∷ 3 ∷ 3 ∷ [])
+    ∷ rows (ids (λ d v. call.run d v 0 0)) (1 ∷ 1 ∷ 2 ∷ 2 ∷ [])
+    ∷ rows (states (λ d v. call.run d v 0 0)) (10 ∷ 5 ∷ 11 ∷ 12 ∷ [])
+    ∷ rows (states (λ d v. call.run d v 1 0)) (10 ∷ 0 ∷ 11 ∷ 12 ∷ [])
     -- onto pCPU 0, which the mask of 0/1 does not admit
-    ∷ row (told mixed (Call.Run 0 1 0 0)) 6
+    ∷ row (told mixed (call.run 0 1 0 0)) 6
     -- ids out of range: weight and `offline_all` are told 0
     ∷ rows (ids (λ d v. Call.SetWeight d v 7)) (0 ∷ 0 ∷ 0 ∷ 0 ∷ [])
     ∷ row (told mixed (Call.OfflineAll 2 0)) 0
@@ -90,7 +91,7 @@ oversized = record { system = fresh 17 1 1; scheduler = freshPolicy 1 1 10 }
 -- every call of the mechanism with each id out of range, `offline_all`, an advance; weight and boost
 abbrev every : List Call
 every =
-    Call.Admit 9 9 ∷ Call.Run 9 9 9 0 ∷ Call.Preempt 9 9 0 ∷ Call.Block 9 9 0 ∷ Call.Wake 9 9 ∷ Call.Offline 9 9 0 ∷ Call.SetAffinity 9 9 0
+    call.admit 9 9 ∷ call.run 9 9 9 0 ∷ call.preempt 9 9 0 ∷ call.block 9 9 0 ∷ call.wake 9 9 ∷ call.offline 9 9 0 ∷ call.setAffinity 9 9 0
     ∷ Call.OfflineAll 9 0 ∷ Call.Advance 0 ∷ Call.SetWeight 9 9 0 ∷ Call.SetWakeBoost true ∷ []
 
 abbrev eights : List ℕ
@@ -133,7 +134,7 @@ holderOf (Vcpu d v) = v + 1
 -- one pCPU, slice 10: who holds it after advances at 0, 10, 20, 30, 40, where these calls set the weights
 abbrev holders : List Call → List ℕ
 holders weights =
-    let host : Host = hostAfter (freshHost 1 2 1 1 2 10) (weights ++ (Call.Admit 0 0 ∷ Call.Admit 0 1 ∷ [])) in
+    let host : Host = hostAfter (freshHost 1 2 1 1 2 10) (weights ++ (call.admit 0 0 ∷ call.admit 0 1 ∷ [])) in
     let after : List Call → ℕ = λ cs. holderOf (occupantAt ((hostAfter host cs) .system) 0) in
     after (Call.Advance 0 ∷ []) ∷ after (Call.Advance 0 ∷ Call.Advance 10 ∷ [])
     ∷ after (Call.Advance 0 ∷ Call.Advance 10 ∷ Call.Advance 20 ∷ [])
@@ -144,7 +145,7 @@ holders weights =
 abbrev asleep-between : Host
 asleep-between =
     hostAfter (freshHost 1 2 2 1 2 10)
-    (Call.Admit 0 0 ∷ Call.Admit 0 1 ∷ Call.Advance 0 ∷ Call.Block 0 1 5 ∷ Call.Wake 0 1 ∷ [])
+    (call.admit 0 0 ∷ call.admit 0 1 ∷ Call.Advance 0 ∷ call.block 0 1 5 ∷ call.wake 0 1 ∷ [])
 
 abbrev pub others : List Row
 others =
@@ -159,7 +160,7 @@ others =
     -- half of the share of one that has none of its own, 128: first, second, second, second, first
     ∷ rows (holders (Call.SetWeight 0 0 128 ∷ [])) (1 ∷ 2 ∷ 2 ∷ 2 ∷ 1 ∷ [])
     -- a host of 0 pCPUs only ever decides Idle
-    ∷ row (count (hostAfter (freshHost 1 2 0 1 2 10) (Call.Admit 0 0 ∷ Call.Admit 0 1 ∷ [])) (Call.Advance 10)) 0
+    ∷ row (count (hostAfter (freshHost 1 2 0 1 2 10) (call.admit 0 0 ∷ call.admit 0 1 ∷ [])) (Call.Advance 10)) 0
     -- a block and a wake between two advances are no wake edge: no offset, though the floor is 7 over 256
     ∷ row (offsetOf (accounted (asleep-between .system) (asleep-between .scheduler) 7) 0 1) 0
     ∷ []

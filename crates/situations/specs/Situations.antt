@@ -1,4 +1,5 @@
--- The host situations of the requirements, as one table in their order: what the definitions give, and what is due. Assumes nothing.
+-- The host situations of the requirements, as one table in their order: what the definitions give, and what is due.
+-- Assumes nothing.
 use Prim.Native.Nat.{ℕ, _-_, _*_, _^_}
 use mathlib.Core.Bool.{false}
 use mathlib.Core.Path.{refl}
@@ -15,7 +16,8 @@ use Rattle.advance.specs.declared.Decision.{Decision}
 use Rattle.advance.specs.declared.Decision.the-variants.{Run, Preempt, Idle}
 use Rattle.advance.specs.Advance.{next}
 use Rattle.host.specs.declared.Host.{Host}
-use Rattle.host.specs.declared.Call.{Call}
+use Rattle.calls.specs.declared.Call.{Call}
+use Rattle.calls.specs.Asked as call
 use Rattle.host.specs.Computing.{computing}
 use Rattle.host.specs.Step.{step, hostAfter, freshHost}
 
@@ -63,37 +65,37 @@ lift h now =
 
 -- 0/0 runs on pCPU 0, 0/1 is Offline
 abbrev one-runs : List Call
-one-runs = Call.Admit 0 0 ∷ Call.Run 0 0 0 0 ∷ []
+one-runs = call.admit 0 0 ∷ call.run 0 0 0 0 ∷ []
 
 -- 0/0 runs on pCPU 0, 0/1 is Runnable and admits pCPU 1 alone
 abbrev off-mask : List Call
-off-mask = Call.Admit 0 0 ∷ Call.Run 0 0 0 0 ∷ Call.Admit 0 1 ∷ Call.SetAffinity 0 1 2 ∷ []
+off-mask = call.admit 0 0 ∷ call.run 0 0 0 0 ∷ call.admit 0 1 ∷ call.setAffinity 0 1 2 ∷ []
 
 -- 2 pCPUs, of which 0/0 admits pCPU 0 alone
 abbrev narrowed : Host
-narrowed = host 1 1 2 (Call.SetAffinity 0 0 1 ∷ [])
+narrowed = host 1 1 2 (call.setAffinity 0 0 1 ∷ [])
 
 -- 0/0 ran for 7 ticks and is dispatched at 100
 abbrev dispatched-at-100 : Host
-dispatched-at-100 = host 1 1 1 (Call.Admit 0 0 ∷ Call.Run 0 0 0 0 ∷ Call.Preempt 0 0 7 ∷ Call.Run 0 0 0 100 ∷ [])
+dispatched-at-100 = host 1 1 1 (call.admit 0 0 ∷ call.run 0 0 0 0 ∷ call.preempt 0 0 7 ∷ call.run 0 0 0 100 ∷ [])
 
 -- 0/0 ran for 2^64 − 4 ticks and is dispatched at 0
 abbrev near-the-top : Host
-near-the-top = host 1 1 1 (Call.Admit 0 0 ∷ Call.Run 0 0 0 0 ∷ Call.Preempt 0 0 (2 ^ 64 - 4) ∷ Call.Run 0 0 0 0 ∷ [])
+near-the-top = host 1 1 1 (call.admit 0 0 ∷ call.run 0 0 0 0 ∷ call.preempt 0 0 (2 ^ 64 - 4) ∷ call.run 0 0 0 0 ∷ [])
 
 -- 0/0, weight 3, stays in the pool, running from 0; 0/1, weight 2, ran for 1 tick, was blocked and is awake again
 abbrev waker : Host
 waker =
     host 1 2 2
-    (Call.SetWeight 0 0 3 ∷ Call.SetWeight 0 1 2 ∷ Call.Admit 0 1 ∷ Call.Run 0 1 1 0 ∷ Call.Block 0 1 1
-    ∷ Call.Admit 0 0 ∷ Call.Advance 0 ∷ Call.Wake 0 1 ∷ [])
+    (Call.SetWeight 0 0 3 ∷ Call.SetWeight 0 1 2 ∷ call.admit 0 1 ∷ call.run 0 1 1 0 ∷ call.block 0 1 1
+    ∷ call.admit 0 0 ∷ Call.Advance 0 ∷ call.wake 0 1 ∷ [])
 
 -- the same at weights 1, with 10 ticks run by 0/1
 abbrev waker-again : Host
 waker-again =
     host 1 2 2
-    (Call.SetWeight 0 0 1 ∷ Call.SetWeight 0 1 1 ∷ Call.Admit 0 1 ∷ Call.Run 0 1 1 0 ∷ Call.Block 0 1 10
-    ∷ Call.Admit 0 0 ∷ Call.Advance 0 ∷ Call.Wake 0 1 ∷ [])
+    (Call.SetWeight 0 0 1 ∷ Call.SetWeight 0 1 1 ∷ call.admit 0 1 ∷ call.run 0 1 1 0 ∷ call.block 0 1 10
+    ∷ call.admit 0 0 ∷ Call.Advance 0 ∷ call.wake 0 1 ∷ [])
 
 -- the host with the offset 100 for 0/1
 abbrev lifted-before : Host → Host
@@ -105,41 +107,41 @@ lifted-before h =
 
 -- two on one pCPU, 0/0 dispatched at 100
 abbrev slice : Host
-slice = host 1 2 1 (Call.Admit 0 0 ∷ Call.Admit 0 1 ∷ Call.Advance 100 ∷ [])
+slice = host 1 2 1 (call.admit 0 0 ∷ call.admit 0 1 ∷ Call.Advance 100 ∷ [])
 
 -- 0/2 holds pCPU 1, which is all that 0/0 admits; 0/1 ran for 5 ticks and admits every pCPU
 abbrev pinned : Host
 pinned =
     host 1 3 2
-    (Call.Admit 0 0 ∷ Call.SetAffinity 0 0 2 ∷ Call.Admit 0 1 ∷ Call.Run 0 1 0 0 ∷ Call.Preempt 0 1 5
-    ∷ Call.Admit 0 2 ∷ Call.Run 0 2 1 5 ∷ [])
+    (call.admit 0 0 ∷ call.setAffinity 0 0 2 ∷ call.admit 0 1 ∷ call.run 0 1 0 0 ∷ call.preempt 0 1 5
+    ∷ call.admit 0 2 ∷ call.run 0 2 1 5 ∷ [])
 
 -- ---- the table
 
 abbrev pub table : List Row
 table =
     -- 2 domains, 2 pCPUs: run of domain 9 on pCPU 2
-    row (told (host 2 1 2 []) (Call.Run 9 0 2 0)) 3
+    row (told (host 2 1 2 []) (call.run 9 0 2 0)) 3
     -- run of an Offline vCPU on a busy pCPU
-    ∷ row (told (host 1 2 1 one-runs) (Call.Run 0 1 0 0)) 10
+    ∷ row (told (host 1 2 1 one-runs) (call.run 0 1 0 0)) 10
     -- off-mask and busy together
-    ∷ row (told (host 1 2 2 off-mask) (Call.Run 0 1 0 0)) 6
+    ∷ row (told (host 1 2 2 off-mask) (call.run 0 1 0 0)) 6
     -- the empty mask while Running, and while Runnable
-    ∷ row (told (host 1 1 1 one-runs) (Call.SetAffinity 0 0 0)) 6
-    ∷ row (told (host 1 1 1 (Call.Admit 0 0 ∷ [])) (Call.SetAffinity 0 0 0)) 0
+    ∷ row (told (host 1 1 1 one-runs) (call.setAffinity 0 0 0)) 6
+    ∷ row (told (host 1 1 1 (call.admit 0 0 ∷ [])) (call.setAffinity 0 0 0)) 0
     -- 2 pCPUs: the mask 2^64 − 1 is stored as 3, where 1 stood
     ∷ rows
-    (mask narrowed 0 ∷ told narrowed (Call.SetAffinity 0 0 (2 ^ 64 - 1)) ∷ mask (after narrowed (Call.SetAffinity 0 0 (2 ^ 64 - 1))) 0 ∷ [])
+    (mask narrowed 0 ∷ told narrowed (call.setAffinity 0 0 (2 ^ 64 - 1)) ∷ mask (after narrowed (call.setAffinity 0 0 (2 ^ 64 - 1))) 0 ∷ [])
     (1 ∷ 0 ∷ 3 ∷ [])
     -- pCPU 64 under the mask 2^64 − 1 is not admitted; 63 is
     ∷ rows (test (permits (2 ^ 64 - 1) 63) ∷ test (permits (2 ^ 64 - 1) 64) ∷ []) (1 ∷ 0 ∷ [])
     -- dispatched at 100, preempted at 90: the run time is unchanged
     ∷ rows
-    (runtime dispatched-at-100 0 ∷ told dispatched-at-100 (Call.Preempt 0 0 90)
-    ∷ runtime (after dispatched-at-100 (Call.Preempt 0 0 90)) 0 ∷ [])
+    (runtime dispatched-at-100 0 ∷ told dispatched-at-100 (call.preempt 0 0 90)
+    ∷ runtime (after dispatched-at-100 (call.preempt 0 0 90)) 0 ∷ [])
     (7 ∷ 0 ∷ 7 ∷ [])
     -- run time 2^64 − 4, interval 10
-    ∷ rows (runtime near-the-top 0 ∷ runtime (after near-the-top (Call.Preempt 0 0 10)) 0 ∷ []) ((2 ^ 64 - 4) ∷ (2 ^ 64 - 1) ∷ [])
+    ∷ rows (runtime near-the-top 0 ∷ runtime (after near-the-top (call.preempt 0 0 10)) 0 ∷ []) ((2 ^ 64 - 4) ∷ (2 ^ 64 - 1) ∷ [])
     -- 10 over weight 2 and 5 over weight 1: neither is more deserving
     ∷ rows (test (moreDeserving 10 2 5 1) ∷ test (moreDeserving 5 1 10 2) ∷ []) (0 ∷ 0 ∷ [])
     -- 2^100 and 2^101, both at weight 2^30: a held tie, though the exact order is strict

@@ -115,7 +115,7 @@ pub fn number_of(answer: Answer) -> u64
 
 /// An answer, and the system that the call leaves.
 // The system stands first: behind the answer, and what pads that, it is copied once more.
-pub struct Stepped {
+pub struct Transitioned {
     pub system: System,
     pub answer: Answer,
 }
@@ -247,16 +247,16 @@ fn as_built(num_domains: usize, vcpus_per_domain: usize, num_pcpus: usize) -> Sy
 impl System {
     /// A system of that shape. One above the sizes is refused, beside the system of no domains,
     /// vCPUs and pCPUs.
-    pub fn new(num_domains: usize, vcpus_per_domain: usize, num_pcpus: usize) -> Stepped
+    pub fn new(num_domains: usize, vcpus_per_domain: usize, num_pcpus: usize) -> Transitioned
         ensures { λ r. ⌜ systemOutcome r ≡ builtSystem «num_domains» «vcpus_per_domain» «num_pcpus» ⌝ }
     {
         if within_sizes(num_domains, vcpus_per_domain, num_pcpus) {
-            Stepped {
+            Transitioned {
                 answer: Answer::Done,
                 system: as_built(num_domains, vcpus_per_domain, num_pcpus),
             }
         } else {
-            Stepped {
+            Transitioned {
                 answer: Answer::TooLarge,
                 system: as_built(0, 0, 0),
             }

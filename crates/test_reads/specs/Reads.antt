@@ -1,11 +1,6 @@
 -- What can be read of a host, as five lines of numbers: each number is what the definition of a read answers.
-use Prim.Native.Nat.{ℕ, _+_, _≤_}
-use mathlib.Core.Bool.{Bool, cond}
-use mathlib.Core.Path.{_≡_}
+use Prim.Native.Nat.{ℕ}
 use mathlib.Core.List.{List, _∷_, _++_}
-use lib.Dec.{leb}
-use lib.ListN.{length}
-use borrow.Author.Tests.{le-leb}
 use Rattle.service.specs.Service.{held}
 use Rattle.system.specs.declared.System.{System}
 use Rattle.system.specs.Reads.{vcpuCount, stateOf, isRunning, runtimeOf, onCpuSince, occupantOf}
@@ -18,7 +13,6 @@ use Rattle.advance.specs.Advance.{next}
 use Rattle.usage.specs.Usage.{usage}
 use Rattle.test_fields.specs.Fields.{bit, kept}
 use Rattle.text.specs.Lines.{numbersLine}
-use Rattle.text.specs.Places.{put, Placed}
 use Rattle.test_reads.specs.declared.Query.{Query}
 use Rattle.test_reads.specs.Numbers.{maybeStateNumber, maybeNumbers, holderNumbers, violationNumbers, decisionNumbers}
 
@@ -63,20 +57,6 @@ readsText s π q =
     ++ numbersLine (moveNumbers s π (q .clock))
     ++ numbersLine (kept s π (q .dom) (q .vcpu))
 
--- there is room for five lines at index `at`
-abbrev pub roomy : List ℕ → ℕ → Bool
-roomy out at = leb (at + 866) (length out)
-
--- their text put there, and the index past it
-abbrev pub readsPut : List ℕ → ℕ → List ℕ → List ℕ
-readsPut out at t = cond (roomy out at) (put out at t) out
-
-abbrev pub readsEnd : List ℕ → ℕ → List ℕ → ℕ
-readsEnd out at t = cond (roomy out at) (at + length t) at
-
--- where there is room, they stand there
-pub reads-placed : {out t after : List ℕ} {at end : ℕ} → at + 866 ≤ length out → after ≡ readsPut out at t → end ≡ readsEnd out at t
-    → Placed out at t after end
-reads-placed {out} {at = at} h e f =
-    let there = le-leb (at + 866) (length out) h in
-    record { bytes = rw there at e; past = rw there at f }
+-- the most bytes that the five lines take: four of eight numbers, and one of nine
+abbrev pub readsRoom : ℕ
+readsRoom = 866

@@ -5,9 +5,9 @@ ghost use mathlib.Core.Path.{_≡_};
 ghost use Prim.Native.Nat.{_+_, _*_, _≤_};
 ghost use lib.ListN.{length};
 ghost use Rattle.text.specs.Lines.{numbersLine};
-ghost use Rattle.text.specs.Places.{Placed};
+ghost use Rattle.text.specs.Places.{Placed, putWithin, endWithin};
 ghost use Rattle.test_reads.specs.Numbers.{maybeStateNumber, maybeNumbers, holderNumbers, violationNumbers, decisionNumbers};
-ghost use Rattle.test_reads.specs.Reads.{vcpuNumbers, domainNumbers, hostNumbers, moveNumbers, readsText, readsPut, readsEnd};
+ghost use Rattle.test_reads.specs.Reads.{vcpuNumbers, domainNumbers, hostNumbers, moveNumbers, readsText, readsRoom};
 use advance::Decision;
 use host::Host;
 use policy::Scheduler;
@@ -178,7 +178,7 @@ fn put_numbers(out: &mut [u8], at: usize, numbers: &[u64]) -> usize
 }
 
 fn put_reads(out: &mut [u8], at: usize, s: System, p: Scheduler, q: Query) -> usize
-    requires { ⌜ at + 866 ≤ length (now out) ⌝ }
+    requires { ⌜ at + readsRoom ≤ length (now out) ⌝ }
     ensures { λ r. ⌜ Placed (now (out .entry)) at (readsText s p q) (now (out .exit)) r ⌝ }
 {
     let a = put_numbers(out, at, &vcpu_numbers(s, q));
@@ -191,8 +191,8 @@ fn put_reads(out: &mut [u8], at: usize, s: System, p: Scheduler, q: Query) -> us
 /// Puts what can be read of a host at index `at`, if ROOM bytes are left there, and answers the
 /// index past it.
 pub fn reads(out: &mut [u8], at: usize, h: Host, q: Query) -> usize
-    ensures { λ r. ⌜ now (out .exit) ≡ readsPut (now (out .entry)) at (readsText (h .system) (h .scheduler) q) ⌝ }
-    ensures { λ r. ⌜ r ≡ readsEnd (now (out .entry)) at (readsText (h .system) (h .scheduler) q) ⌝ }
+    ensures { λ r. ⌜ now (out .exit) ≡ putWithin readsRoom (now (out .entry)) at (readsText (h .system) (h .scheduler) q) ⌝ }
+    ensures { λ r. ⌜ r ≡ endWithin readsRoom (now (out .entry)) at (readsText (h .system) (h .scheduler) q) ⌝ }
 {
     if out.len() < at {
         return at;

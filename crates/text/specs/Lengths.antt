@@ -5,7 +5,7 @@ use mathlib.Core.List.{List, [], _∷_, _++_}
 use native.Mathlib.Omega.{arith}
 use lib.Dec.{ltb}
 use lib.ListN.{length, length-append}
-use Rattle.text.specs.Lines.{digits, decimal, wideDecimal, field, fields, answerLine, numbersLine, pcpuLine, usageLine}
+use Rattle.text.specs.Lines.{digits, decimal, wideDecimal, field, fields, answerLine, answerRoom, numbersLine, pcpuLine, usageLine}
 
 digits-short : (f n : ℕ) → length (digits f n) ≤ f
 unfolding digits
@@ -41,7 +41,7 @@ longer t u k l a b = omega (arith, length-append t u)
 ended : (t : List ℕ) (k : ℕ) → length t ≤ k → length (t ++ (10 ∷ [])) ≤ k + 1
 ended t k a = longer t (10 ∷ []) k 1 a (omega arith)
 
-pub answer-line-short : (n a m : ℕ) → length (answerLine n a m) ≤ 63
+pub answer-line-short : (n a m : ℕ) → length (answerLine n a m) ≤ answerRoom
 unfolding answerLine
 answer-line-short n a m =
     let numbered = longer (decimal n) (field a) 20 21 (decimal-short n) (field-short a) in

@@ -32,6 +32,10 @@ fields (n ∷ ns) = field n ++ fields ns
 unfoldable pub answerLine : ℕ → ℕ → ℕ → List ℕ
 answerLine number answer moves = decimal number ++ field answer ++ field moves ++ (10 ∷ [])
 
+-- the most bytes that it takes: three numbers of 20 digits, two spaces and the line's end
+abbrev pub answerRoom : ℕ
+answerRoom = 63
+
 -- some numbers, as a vCPU's are written
 unfoldable pub numbersLine : List ℕ → List ℕ
 numbersLine ns = fields ns ++ (10 ∷ [])

@@ -1,5 +1,5 @@
 -- Text put into a stretch of bytes. Assumes nothing.
-use Prim.Native.Nat.{ℕ, _+_, _≤_}
+use Prim.Native.Nat.{ℕ, _+_, _≤_, _<_}
 use mathlib.Core.Bool.{Bool, cond, _&&_}
 use mathlib.Core.Path.{_≡_, refl, sym, _∙_, ap, ap₂}
 use mathlib.Core.List.{List, [], _++_, append-assoc}
@@ -8,7 +8,7 @@ use native.Mathlib.Nat.{zero-add, add-zero}
 use native.Mathlib.Omega.{arith}
 use lib.ListN.{length, take, drop, replicate, length-append, take-append-drop}
 use lib.Seq.{length-take-le, take-at, take-append-seam, drop-append-add, drop-drop}
-use borrow.Author.Tests.{le-leb}
+use borrow.Author.Tests.{le-leb, lt-leb}
 use Rattle.text.specs.declared.Line.{Line}
 
 -- t in place of what stands at index `at`
@@ -37,6 +37,13 @@ appended out at l = cond (roomy out at l) (put out at (textOf l)) out
 
 abbrev pub endOf : List ℕ → ℕ → Line → ℕ
 endOf out at l = cond (roomy out at l) (at + l .length) at
+
+-- t put at index `at` where there are k bytes from there on, and the index past it
+abbrev pub putWithin : ℕ → List ℕ → ℕ → List ℕ → List ℕ
+putWithin k out at t = cond (leb (at + k) (length out)) (put out at t) out
+
+abbrev pub endWithin : ℕ → List ℕ → ℕ → List ℕ → ℕ
+endWithin k out at t = cond (leb (at + k) (length out)) (at + length t) at
 
 -- text put right after text makes one text of the two
 pub put-put : (out t u : List ℕ) (at : ℕ) → at ≤ length out → put (put out at t) (at + length t) u ≡ put out at (t ++ u)
@@ -89,3 +96,23 @@ line-placed out t at k l {after} {end} e short most room o p =
     let bytes = o ∙ ap (appended out at) e ∙ there .bytes in
     let past = p ∙ ap (endOf out at) e ∙ there .past in
     (record { bytes = bytes; past = past }, omega (arith, past))
+
+-- where there are not k bytes nothing is put; where there are, what was placed is what is put
+pub crowded : (k : ℕ) (out t : List ℕ) (at : ℕ) → length out < at + k → (out ≡ putWithin k out at t) × (at ≡ endWithin k out at t)
+crowded k out t at h = rw (lt-leb (at + k) (length out) h) (refl, refl)
+
+pub put-within : (k : ℕ) {out t after : List ℕ} {at end : ℕ} → at + k ≤ length out → Placed out at t after end
+    → (after ≡ putWithin k out at t) × (end ≡ endWithin k out at t)
+put-within k {out} {at = at} h p = rw (le-leb (at + k) (length out) h) (p .bytes, p .past)
+
+pub placed-within : (k : ℕ) {out t after : List ℕ} {at end : ℕ} → at + k ≤ length out
+    → after ≡ putWithin k out at t → end ≡ endWithin k out at t → Placed out at t after end
+placed-within k {out} {at = at} h e f =
+    let there = le-leb (at + k) (length out) h in
+    record { bytes = rw there at e; past = rw there at f }
+
+-- the same text, bytes and end, under other names
+pub placed-as : {before t t′ after after′ : List ℕ} {at end end′ : ℕ} → Placed before at t after end → t ≡ t′ → after′ ≡ after → end′ ≡ end
+    → Placed before at t′ after′ end′
+placed-as {before} {at = at} p e f g =
+    record { bytes = f ∙ p .bytes ∙ ap (put before at) e; past = g ∙ p .past ∙ ap (λ (u : List ℕ). at + length u) e }

@@ -11,6 +11,9 @@ ghost use Rattle.text.specs.Places.{put, Placed, lineOf, appended, endOf
 ghost use Rattle.text.specs.AnswerPlaces.{answerPut, answerEnd};
 use service::Service;
 
+/// The most bytes that what a record is told takes.
+pub const ANSWER_ROOM: usize = 63;
+
 /// A line: its text is the first `length` bytes.
 pub struct Line {
     pub bytes: [u8; 192],
@@ -138,10 +141,10 @@ pub fn put_answer_line(out: &mut [u8], at: usize, number: u64, answer: u64, move
     ensures { λ _. ⌜ now (out .exit) ≡ answerPut (now (out .entry)) at number answer moves ⌝ }
     ensures { λ r. ⌜ r ≡ answerEnd (now (out .entry)) at number answer moves ⌝ }
 {
-    if out.len() < 63 {
+    if out.len() < ANSWER_ROOM {
         return at;
     }
-    if at > out.len() - 63 {
+    if at > out.len() - ANSWER_ROOM {
         return at;
     }
     let a = put_number(out, at, number);

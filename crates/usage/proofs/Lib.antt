@@ -1,5 +1,1 @@
-pub mod Laws
 mod Bounds
-mod RecordTimes
-mod AtItsClock
-pub mod LastDomain

@@ -26,7 +26,7 @@ use Rattle.usage_layout.specs.Reading.{
   shaped,
   accepted,
 }
-use Rattle.scan.specs.Booleans.{both, all-two}
+use Rattle.scans.specs.Booleans.{both, all-two}
 use Rattle.usage_layout.proofs.Each.{by-parts}
 use Rattle.usage_layout.proofs.Tests.{all-pass, each-passes}
 

@@ -28,7 +28,7 @@ use Rattle.usage_layout.specs.Reading.{
 }
 use Rattle.usage_layout.proofs.Each.{at-behind}
 use Rattle.usage_layout.proofs.Parts.{file-length, count-at, line-at, body-at, vcpu-at, body-length}
-use Rattle.scan.specs.Booleans.{all-two}
+use Rattle.scans.specs.Booleans.{all-two}
 use Rattle.usage_layout.proofs.Accepted.{is-shaped}
 
 module _ (f : Figures) (w : Within f) where

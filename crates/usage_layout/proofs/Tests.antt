@@ -4,7 +4,7 @@ use mathlib.Core.Bool.{Bool, true}
 use mathlib.Core.Path.{_≡_, refl}
 use native.Mathlib.Decide.{ℕ-discrete}
 use native.Mathlib.Omega.{arith}
-use Rattle.scan.specs.Booleans.{both, all-two}
+use Rattle.scans.specs.Booleans.{both, all-two}
 use Rattle.usage_layout.specs.Reading.{all}
 
 pub all-pass : (n : ℕ) (passes : ℕ → Bool) → ((i : ℕ) → i < n → passes i ≡ true) → all n passes ≡ true

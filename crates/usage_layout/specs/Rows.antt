@@ -1,9 +1,7 @@
 -- Usage files byte by byte, worked out by hand from the layout, what they say, and bytes that are no file. Assumes nothing.
-use Prim.Native.Nat.{ℕ, zero, suc, _+_, _*_, _-_, _^_}
-use mathlib.Core.Bool.{cond}
+use Prim.Native.Nat.{ℕ, _+_, _*_, _-_, _^_}
 use mathlib.Core.Path.{refl}
 use mathlib.Core.List.{List, [], _∷_, _++_, map}
-use lib.Dec.{eqb}
 use lib.ListN.{length, getD, set, take, replicate}
 use Rattle.rows.specs.Rows.{Row, row, rows, test, AllDue}
 use Rattle.big_endian.specs.Numbers.{bytes, number}

@@ -3,24 +3,13 @@ use mathlib.Core.Bool.{Bool, true, false, cond, _&&_}
 use mathlib.Core.List.{List, []}
 use mathlib.Core.Path.{_≡_, refl, ap}
 use Prim.Native.Nat.{ℕ, _+_, _*_}
-use denote.Ref.{RefT}
 use borrow.Author.Tests.{ltb-true, le-leb}
 use lib.Dec.{leb, ltb}
 use lib.ListN.{length}
 use Rattle.usage_layout.specs.Reading.{accepted, domainsIn, offsetIn, vcpusIn, bodyIn, refusedCount, countOf}
 use Rattle.usage_layout.proofs.Laws.{accepted-parts}
-use Rattle.usage_parse.specs.Domains.{
-  answerOf,
-  hasBody,
-  stretchOf,
-  startOf,
-  placeOf,
-  answerAt,
-  namesBody,
-  stretchAt,
-  startAt,
-  placeAt,
-}
+use Rattle.usage_parse.specs.Domains.{answerOf, hasBody, startOf, answerAt, namesBody, startAt}
+use Rattle.usage_parse.specs.DomainLaws.{ToldByTheCount, GivenByTheCount, PlacedByTheCount}
 
 -- whether the line and the body of domain d lie within the bytes
 abbrev within : List ℕ → ℕ → Bool
@@ -40,7 +29,7 @@ accepted-within s d e = go (ltb d (domainsIn s)) refl
 few-domains : (s : List ℕ) → accepted s ≡ true → leb (domainsIn s) 16 ≡ true
 few-domains s e = le-leb _ _ (accepted-parts s e .shape .domains)
 
-pub answer-of : (s : List ℕ) (d : ℕ) → answerAt (countOf s) d ≡ answerOf s d
+pub answer-of : ToldByTheCount
 unfolding countOf
 answer-of s d = go (accepted s) refl
   where
@@ -56,11 +45,11 @@ names-body s d = go (accepted s) refl
     go true e = simp (few-domains s e) (accepted-within s d e)
     go false e = refl
 
-pub stretch-of : (s : List ℕ) (d : ℕ) → stretchAt s (countOf s) d ≡ stretchOf s d
+pub stretch-of : GivenByTheCount
 stretch-of s d = ap (λ t. cond t (bodyIn s d) []) (names-body s d)
 
 start-of : (s : List ℕ) (d : ℕ) → startAt s (countOf s) d ≡ startOf s d
 start-of s d = ap (λ t. cond t (offsetIn s d) 0) (names-body s d)
 
-pub place-of : (s : RefT (List ℕ)) (d : ℕ) → placeAt s (countOf (s .now)) d ≡ placeOf s d
+pub place-of : PlacedByTheCount
 place-of s d = ap (λ from. (s .ptr .0, from + s .ptr .1)) (start-of (s .now) d)

@@ -1,3 +1,4 @@
 pub mod Domains
+pub mod DomainLaws
 pub mod Refusals
 pub mod FileFigures

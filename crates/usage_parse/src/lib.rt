@@ -8,6 +8,8 @@ ghost use Rattle.service.specs.Service.{value, held};
 ghost use Rattle.system.specs.Answers.{told};
 ghost use Rattle.usage_layout.specs.Reading.{all, opens, lineRight, weighed, shaped, vcpusEach, countOf};
 ghost use Rattle.usage_parse.specs.Domains.{answerAt, stretchAt, placeAt, vcpusOf, weightAt, serviceAt};
+use big_endian::half;
+use big_endian::word;
 use service::Service;
 use system::Answer;
 use system::MAX_DOMAINS;
@@ -19,27 +21,20 @@ pub const REFUSED: usize = 17;
 
 // ---- numbers
 
-fn wide(b: u8) -> usize
-    ensures { λ r. ⌜ r ≡ b ⌝ }
-    ensures { λ r. ⌜ r < 256 ⌝ }
-{
-    b as usize
-}
-
-fn half(s: &[u8], at: usize) -> usize
+fn half_at(s: &[u8], at: usize) -> usize
     requires { ⌜ at + 2 ≤ length (now s) ⌝ }
     ensures { λ r. ⌜ r ≡ number (now (s .entry)) at 2 ⌝ }
     ensures { λ r. ⌜ r < 2 ^ 16 ⌝ }
 {
-    wide(s[at]) * 0x100 + wide(s[at + 1])
+    half(s[at], s[at + 1]) as usize
 }
 
-fn word(s: &[u8], at: usize) -> usize
+fn word_at(s: &[u8], at: usize) -> usize
     requires { ⌜ at + 4 ≤ length (now s) ⌝ }
     ensures { λ r. ⌜ r ≡ number (now (s .entry)) at 4 ⌝ }
     ensures { λ r. ⌜ r < 2 ^ 32 ⌝ }
 {
-    half(s, at) * 0x1_0000 + half(s, at + 2)
+    word(s[at], s[at + 1], s[at + 2], s[at + 3]) as usize
 }
 
 // ---- what is accepted
@@ -66,10 +61,10 @@ fn line_right(s: &[u8], n: usize, k: usize, d: usize) -> bool
     requires { ⌜ (d < 16) × (n ≤ 16) × (k ≤ 8) ⌝ }
     ensures { λ r. ⌜ r ≡ lineRight (now (s .entry)) n k d ⌝ }
 {
-    if word(s, 6 + d * 6) != 6 + n * 6 + d * (k * 20) {
+    if word_at(s, 6 + d * 6) != 6 + n * 6 + d * (k * 20) {
         return false;
     }
-    half(s, 10 + d * 6) == k
+    half_at(s, 10 + d * 6) == k
 }
 
 // Whether the line of each domain does.
@@ -97,7 +92,7 @@ fn weighed(s: &[u8], from: usize, m: usize) -> bool
 {
     let mut i: usize = 0;
     while i < m {
-        if word(s, from + i * 20) < 1 {
+        if word_at(s, from + i * 20) < 1 {
             return false;
         }
         i += 1;
@@ -129,7 +124,7 @@ fn shaped(s: &[u8], n: usize, k: usize) -> bool
 fn vcpus_each(s: &[u8]) -> usize
     ensures { λ r. ⌜ r ≡ vcpusEach (now (s .entry)) ⌝ }
 {
-    if s.len() < 12 { 0 } else { half(s, 10) }
+    if s.len() < 12 { 0 } else { half_at(s, 10) }
 }
 
 /// The domain count of a file, or REFUSED where it is not accepted.
@@ -143,7 +138,7 @@ pub fn domain_count(file: &[u8]) -> usize
     if !usage {
         return REFUSED;
     }
-    let n = half(file, 4);
+    let n = half_at(file, 4);
     let right = shaped(file, n, vcpus_each(file));
     if !right {
         return REFUSED;
@@ -181,8 +176,8 @@ pub fn body_at(file: &[u8], count: usize, domain: usize) -> &[u8]
     if file.len() < 12 + domain * 6 {
         return &file[0..0];
     }
-    let offset = word(file, 6 + domain * 6);
-    let end = offset + half(file, 10 + domain * 6) * 20;
+    let offset = word_at(file, 6 + domain * 6);
+    let end = offset + half_at(file, 10 + domain * 6) * 20;
     if file.len() < end {
         return &file[0..0];
     }
@@ -205,7 +200,7 @@ pub fn weight_at(body: &[u8], vcpu: usize) -> u32
     if body.len() / 20 <= vcpu {
         return 0;
     }
-    word(body, vcpu * 20) as u32
+    word_at(body, vcpu * 20) as u32
 }
 
 /// A vCPU's service; 0 for one that the body has not.
@@ -218,9 +213,9 @@ pub fn service_at(body: &[u8], vcpu: usize) -> Service
     }
     let at = vcpu * 20 + 4;
     [
-        word(body, at + 12) as u32,
-        word(body, at + 8) as u32,
-        word(body, at + 4) as u32,
-        word(body, at) as u32,
+        word_at(body, at + 12) as u32,
+        word_at(body, at + 8) as u32,
+        word_at(body, at + 4) as u32,
+        word_at(body, at) as u32,
     ]
 }

@@ -2,4 +2,4 @@ mod Stores
 mod Limbs
 mod Sizes
 mod FileLoop
-mod Elements
+mod EachElement

@@ -10,13 +10,9 @@ use Rattle.system.specs.Reads.{vcpuCount}
 use Rattle.policy.specs.declared.Scheduler.{Scheduler}
 use Rattle.usage.specs.Usage.{sum, usage}
 use Rattle.usage.specs.Sums.{sum-same}
-use Rattle.usage_layout.specs.Reading.{vcpusIn, bodyIn, serviceIn}
+use Rattle.usage_layout.specs.Reading.{bodyIn, serviceIn}
 use Rattle.usage_layout.specs.Files.{Says}
-use Rattle.usage_write.specs.Written.{figuresOf}
-
--- the services that the body of domain d says, added up
-abbrev pub usageIn : List ℕ → ℕ → ℕ
-usageIn l d = sum (serviceIn (bodyIn l d)) (vcpusIn l d)
+use Rattle.usage_write.specs.Written.{figuresOf, usageIn}
 
 -- `Says` is what `write` promises of every host and reading
 pub file-usage : (s : System) (π : Scheduler) (now : ℕ) (l : List ℕ) → Says l (figuresOf s π now) → (d : ℕ) → d < domains s

@@ -1,6 +1,6 @@
 -- What is written of hosts, by hand: weights as looked up, run times with the part in flight, no offset; counts held at the sizes.
 -- Assumes nothing.
-use Prim.Native.Nat.{ℕ, _+_, _*_, _-_, _^_}
+use Prim.Native.Nat.{ℕ, _-_, _^_}
 use mathlib.Core.Bool.{true}
 use mathlib.Core.Path.{refl}
 use mathlib.Core.List.{List, [], _∷_}

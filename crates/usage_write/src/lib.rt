@@ -9,6 +9,8 @@ ghost use Rattle.service.specs.Service.{value};
 ghost use Rattle.usage_layout.specs.Layout.{usge, each, entry, vcpuBytes, file, padded};
 ghost use Rattle.usage_layout.specs.Files.{Says};
 ghost use Rattle.usage_write.specs.Written.{figuresOf};
+use big_endian::half_bytes;
+use big_endian::word_bytes;
 use policy::Scheduler;
 use policy::looked_up;
 use policy::used_weight;
@@ -40,22 +42,24 @@ fn put_magic(out: &mut [u8; ROOM])
     out[3] = magic[3];
 }
 
-fn put_half(out: &mut [u8; ROOM], at: usize, n: usize)
+fn put_half(out: &mut [u8; ROOM], at: usize, n: u16)
     requires { ⌜ at + 2 ≤ 2662 ⌝ }
     ensures { λ _. ⌜ now (out .exit) ≡ sets (now (out .entry)) at (bytes 2 n) ⌝ }
 {
-    out[at] = (n / 0x100 % 0x100) as u8;
-    out[at + 1] = (n % 0x100) as u8;
+    let h = half_bytes(n);
+    out[at] = h[0];
+    out[at + 1] = h[1];
 }
 
 fn put_word(out: &mut [u8; ROOM], at: usize, n: u32)
     requires { ⌜ at + 4 ≤ 2662 ⌝ }
     ensures { λ _. ⌜ now (out .exit) ≡ sets (now (out .entry)) at (bytes 4 n) ⌝ }
 {
-    out[at] = (n / 0x100_0000 % 0x100) as u8;
-    out[at + 1] = (n / 0x1_0000 % 0x100) as u8;
-    out[at + 2] = (n / 0x100 % 0x100) as u8;
-    out[at + 3] = (n % 0x100) as u8;
+    let w = word_bytes(n);
+    out[at] = w[0];
+    out[at + 1] = w[1];
+    out[at + 2] = w[2];
+    out[at + 3] = w[3];
 }
 
 // The limb that is worth most first.
@@ -85,7 +89,7 @@ fn put_entries(out: &mut [u8; ROOM], n: usize, k: usize)
     let mut d: usize = 0;
     while d < n {
         put_word(out, 6 + d * 6, (6 + n * 6 + d * (k * 20)) as u32);
-        put_half(out, 10 + d * 6, k);
+        put_half(out, 10 + d * 6, k as u16);
         d += 1;
     }
 }
@@ -102,7 +106,7 @@ pub fn write(s: System, p: Scheduler, now: Ticks) -> Written
     let k = least(s.vcpus_per_domain, system::MAX_VCPUS);
     let mut out = [0u8; ROOM];
     put_magic(&mut out);
-    put_half(&mut out, 4, n);
+    put_half(&mut out, 4, n as u16);
     put_entries(&mut out, n, k);
     let mut at = 6 + n * 6;
     let mut i: usize = 0;

@@ -18,7 +18,7 @@ use Rattle.system.specs.States.{onto}
 use Rattle.verdict.specs.declared.Violation.the-variants.{None}
 use Rattle.verdict.specs.Violations.{vcpuViolation, slotViolation, holderViolation, pcpuViolation}
 use Rattle.verdict.specs.Violations.{earliest, firstViolation, isNone, invariantsHold}
-use Rattle.verdict.specs.Elements.{runsWithin, runningAt}
+use Rattle.verdict.specs.OneViolation.{runsWithin, runningAt}
 use Rattle.verdict.specs.Sound.{OnPcpu, Sound, earliest-none, clean-runs, occupies-none, is-none, sound-iff}
 use Rattle.verdict.proofs.VerdictScan.{counts}
 use Rattle.verdict.proofs.Pigeonhole.{Into, into-le, into-lt}

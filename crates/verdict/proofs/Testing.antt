@@ -14,7 +14,7 @@ use Rattle.verdict.specs.declared.Violation.{Violation}
 use Rattle.verdict.specs.declared.Violation.the-variants.{None, Oversize, OccupantGhost, OccupantNotRunning}
 use Rattle.verdict.specs.declared.Violation.the-variants.{RunningGhostPcpu, OccupancyBroken, RunningOffAffinity}
 use Rattle.verdict.specs.Violations.{slotViolation, pcpuViolation, earliest, orElse, isNone, firstViolation, invariantsHold}
-use Rattle.verdict.specs.Elements.{pcpuIndex, vcpuViolationAt, runsWithin, runningAt}
+use Rattle.verdict.specs.OneViolation.{pcpuIndex, vcpuViolationAt, runsWithin, runningAt}
 use Rattle.verdict.specs.Sound.{is-none}
 use Rattle.verdict.proofs.VerdictScan.{or-keeps, slot-told}
 use Rattle.verdict.proofs.Tally.{counted, running-told, running-present, rests, tally}

@@ -21,7 +21,7 @@ use Rattle.verdict.specs.declared.Violation.the-variants.{RunningGhostPc
 use Rattle.verdict.specs.Violations.{runningViolation, vcpuViolation, slotViolation, occupantViolation, holderViolation}
 use Rattle.verdict.specs.Violations.{pcpuViolation, orElse, earliest, isNone}
 use Rattle.verdict.specs.Sound.{within-sizes}
-use Rattle.verdict.specs.Elements.{pcpuIndex, vcpuViolationAt, holderSlot, holderViolationAt}
+use Rattle.verdict.specs.OneViolation.{pcpuIndex, vcpuViolationAt, holderSlot, holderViolationAt}
 
 -- nothing is wrong so far, nor here
 pub step : (f : ℕ → Violation) (i : ℕ) → earliest f i ≡ None → f i ≡ None → earliest f (suc i) ≡ None

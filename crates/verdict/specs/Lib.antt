@@ -1,4 +1,4 @@
 pub mod Violations
-pub mod Elements
+pub mod OneViolation
 pub mod Sound
 pub mod Rows

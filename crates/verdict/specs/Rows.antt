@@ -15,7 +15,7 @@ use Rattle.verdict.specs.declared.Violation.{Violation}
 use Rattle.verdict.specs.declared.Violation.the-variants.{None, Oversize, OccupantGhost, OccupantNotRunning}
 use Rattle.verdict.specs.declared.Violation.the-variants.{RunningGhostPcpu, OccupancyBroken, RunningOffAffinity}
 use Rattle.verdict.specs.Violations.{slotViolation, pcpuViolation, earliest, firstViolation}
-use Rattle.verdict.specs.Elements.{pcpuIndex, vcpuViolationAt, runsWithin}
+use Rattle.verdict.specs.OneViolation.{pcpuIndex, vcpuViolationAt, runsWithin}
 
 -- 0 none; 1 oversize; of a vCPU 2 ghost pCPU, 3 broken occupancy, 4 off affinity; of a pCPU 5 ghost occupant, 6 occupant not running
 abbrev numbered : Violation → List ℕ

@@ -8,13 +8,12 @@ ghost use Rattle.system.specs.Slots.{domains, pcpus};
 ghost use Rattle.system.specs.States.{runsOn};
 ghost use Rattle.verdict.specs.Violations.{names, isNone, earliest, slotViolation, pcpuViolation};
 ghost use Rattle.verdict.specs.Violations.{orElse, firstViolation, invariantsHold};
-ghost use Rattle.verdict.specs.Elements.{pcpuIndex, vcpuViolationAt, holderSlot, holderViolationAt, runsWithin};
+ghost use Rattle.verdict.specs.OneViolation.{pcpuIndex, vcpuViolationAt, holderSlot, holderViolationAt, runsWithin};
 use system::Occupant;
 use system::PhysicalCpu;
 use system::RunState;
 use system::System;
 use system::VirtualCpu;
-use system::least;
 
 /// What is wrong with a system, and where.
 pub enum Violation {
@@ -239,31 +238,8 @@ pub fn is_backed(v: VirtualCpu, c: PhysicalCpu, pcpu_count: usize, dom: usize, v
 }
 
 /// Whether a system has no violation.
-// Where each Running vCPU's pCPU names it back and as many pCPUs are busy as vCPUs run, each holder runs.
 pub fn invariants_hold(s: System) -> bool
     ensures { λ r. ⌜ r ≡ invariantsHold s ⌝ }
 {
-    let k = s.vcpus_per_domain;
-    let m = s.pcpu_count;
-    let mut sound = system::within_sizes(s.domain_count, k, m);
-    let n = least(s.domain_count, system::MAX_DOMAINS) * 8;
-    let mut running: usize = 0;
-    let mut i: usize = 0;
-    while i < n {
-        let v = s.vcpus[i];
-        if runs_within(v, i % 8, k) {
-            let q = pcpu_index(v);
-            let c = s.pcpus[q];
-            if !is_backed(v, c, m, i / 8, i % 8) {
-                sound = false;
-            }
-            running += 1;
-        }
-        i += 1;
-    }
-    let pcpus = s.pcpus;
-    if running != system::busy_in(pcpus, m) {
-        sound = false;
-    }
-    sound
+    is_none(first_violation(s))
 }

@@ -1,70 +1,98 @@
--- `advance::tabulate` meets its contract: after i turns of the loop the rows below i are there. Assumes nothing.
-use Prim.Native.Nat.{ℕ, _-_, _≤_, _<_, zero-le}
-use mathlib.Core.Path.{_≡_, refl, subst}
+-- `advance::tabulate` meets its contract. Assumes nothing.
+use Prim.Native.Nat.{ℕ, _-_, _%_, _≤_, _<_}
+use mathlib.Core.Bool.{Bool, false}
+use mathlib.Core.Path.{_≡_, sym, _∙_, ap, ap₂}
+use mathlib.Core.Logic.{_≢_, ⊎-elim}
+use mathlib.Core.List.{List}
 use native.Mathlib.Omega.{arith}
-use lib.ListN.{length-map}
 use borrow.Author.Needs.{needs}
-use Rattle.system.specs.Reads.{vcpuAt}
-use Rattle.system.specs.Slots.{slots}
-use Rattle.policy.proofs.Laws.{Tabled}
-use Rattle.advance.proofs.ServiceRows.{standing-stored}
-use Rattle.advance.specs.Internal.{Tabulates}
+use borrow.Author.Tests.{eq-eqb, ne-eqb, le-leb, lt-leb}
+use Rattle.service.specs.Service.{held}
+use Rattle.system.specs.declared.RunState.the-variants.{Runnable}
+use Rattle.system.specs.declared.VirtualCpu.{VirtualCpu}
+use Rattle.changes.specs.Records.{left}
+use Rattle.moves.specs.declared.Row.{Row}
+use Rattle.moves.specs.TableWrites.{putKind, putLeaving, putRow}
+use Rattle.policy.specs.declared.Account.{Account}
+use Rattle.policy.specs.Accounts.{usedWeight}
+use Rattle.policy.specs.Standing.{serviceOf}
+use Rattle.settling.specs.Kinds.{kindOf}
+use Rattle.settling.specs.TableOf.{rowOf}
+use Rattle.advance.specs.Tabulated.{tabulated}
 use Rattle.advance.proofs.tabulate.Statement.{statement}
 use Rattle.advance.proofs.tabulate.Tie as tie
-use Rattle.advance.specs.ServiceRule.{ruleOf}
 
-abbrev Inv-loop : tie.InvT-loop
-Inv-loop now s p kind₀ mask₀ service₀ weight₀ n k i₀ kind mask service weight i = (i ≤ n) × Tabulates s (ruleOf p) now kind mask service weight i
+-- what is stored, by the kind
+module _ (t : List ℕ) (i : ℕ) (v : VirtualCpu) (a : Account) (b : Bool) (q now : ℕ) where
+  abbrev kind : ℕ
+  kind = kindOf b false q now v
 
-abbrev μ-loop : tie.MeasureT-loop
-μ-loop now s p kind₀ mask₀ service₀ weight₀ n k i₀ kind mask service weight i = n - i
+  abbrev row : Row
+  row = rowOf kind (usedWeight a) (held (serviceOf v a now)) v
 
-loop-holds : tie.Need-loop-holds Inv-loop μ-loop
-loop-holds c = (zero-le, record { rows = λ i l. absurd (omega arith); kinds = refl; masks = refl; services = refl; weights = refl })
+  abbrev after : List ℕ
+  after = held (serviceOf (left v Runnable now) a now)
 
--- the slot of a turn is in the tables
-below : (c : tie.In-loop Inv-loop μ-loop) → c .before .loop .i < 128
-below c = omega (arith, c .loop-test .taken, c .before .before .least .ensures)
+  stores-none : kind ≡ 0 → putKind t i 0 ≡ tabulated t i v a b q now
+  stores-none e = rw (eq-eqb kind 0 e)
 
--- the accounts' length
-tabled : (c : tie.Start Inv-loop μ-loop) → Tabled (c .args .t2)
-tabled c = record { accounts = rw length-map at (c .good .1 .0 .1 .1 .1 .1 .0 .1 .0 .1) }
+  stores-waiter : kind ≢ 0 → kind < 2 → putRow t i row ≡ tabulated t i v a b q now
+  stores-waiter n h = rw (ne-eqb kind 0 n, lt-leb 2 kind h)
 
-loop-again : tie.Need-loop-again Inv-loop μ-loop
-unfolding vcpuAt
-loop-again c =
-    let e = c .before .before .before .before .before in
-    let w = e .before .before .before in
-    let l = w .before in
-    let a = l .before .before .args in
-    let x = c .put-standing .ensures in (
-      omega (arith, w .loop-test .taken),
-      standing-stored (a .t2) (tabled (l .before .before)) (a .now) (l .loop .i) (below w) (e .looked-up .ensures) (a .t1) (x .0) (x .1 .0)
-          (x .1 .1 .0) (x .1 .1 .1) (l .loop .inv .1),
-    )
+  stores-runner : kind ≢ 0 → 2 ≤ kind → putRow (putLeaving t (kind - 2) after) i row ≡ tabulated t i v a b q now
+  stores-runner n h = rw (ne-eqb kind 0 n, le-leb 2 kind h)
 
-returns : tie.Need-returns Inv-loop μ-loop
-returns c =
-    let l = c .before in
-    let e : l .loop .i ≡ slots (l .before .before .args .t1) = omega (arith, l .before .least .ensures, l .loop .inv .0, c .loop-test .left) in
-    subst (λ (n : ℕ). Tabulates (l .before .before .args .t1) (ruleOf (l .before .before .args .t2)) (l .before .before .args .now) (l .loop .kind) (l .loop .mask) (l .loop .service) (l .loop .weight) n) e (l .loop .inv .1)
+none : tie.Need-returns
+none c =
+    let d = c .before .before in
+    let k = d .before in
+    let a = k .before .args in
+    c .put-kind .ensures
+    ∙ ap (λ (j : ℕ). putKind (a .table .now) j 0) (omega (arith, k .before .pre))
+    ∙ stores-none (a .table .now) (a .i) (a .v) (a .a) (a .present) (a .quantum) (a .clock) (sym (k .kind-of .ensures) ∙ d .if1 .taken)
+
+some : tie.Need-returns-2
+some c =
+    let n = c .before in
+    let u = n .before .before in
+    let x = u .before in
+    let j = x .before in
+    let d = j .before in
+    let k = d .before in
+    let a = k .before .args in
+    let t = a .table .now in
+    let i = a .i in
+    let e = k .kind-of .ensures in
+    let m : i % 128 ≡ i = omega (arith, k .before .pre) in
+    let r = n .row-of .ensures
+    ∙ ap (λ (y : ℕ). rowOf y (u .used-weight .result) (x .service-of2 .result) (a .v)) e
+    ∙ ap₂ (λ (y : ℕ) (z : List ℕ). rowOf (kind t i (a .v) (a .a) (a .present) (a .quantum) (a .clock)) y z (a .v)) (u .used-weight .ensures) (x .service-of2 .ensures) in
+    c .put-row .ensures
+    ∙ ap₂ (λ (m : ℕ) (r : Row). putRow (j .if2 .table) m r) m r
+    ∙ ⊎-elim
+    (λ w.
+    ap (λ (y : List ℕ). putRow y i (row t i (a .v) (a .a) (a .present) (a .quantum) (a .clock))) (
+    w .5 ∙ w .4 .ensures
+    ∙ ap₂ (λ (y : ℕ) (z : List ℕ). putLeaving t (y - 2) z) e
+    (w .3 .ensures ∙ ap (λ (o : VirtualCpu). held (serviceOf o (a .a) (a .clock))) (w .1 .ensures)))
+    ∙ stores-runner t i (a .v) (a .a) (a .present) (a .quantum) (a .clock) (λ z. d .if1 .left (e ∙ z)) (omega (arith, e, w .0 .taken)))
+    (λ w.
+    ap (λ (y : List ℕ). putRow y i (row t i (a .v) (a .a) (a .present) (a .quantum) (a .clock))) (w .1)
+    ∙ stores-waiter t i (a .v) (a .a) (a .present) (a .quantum) (a .clock) (λ z. d .if1 .left (e ∙ z)) (omega (arith, e, w .0 .left)))
+    (j .if2 .came)
 
 pub tabulate-spec : {M : Type 1} → statement M
 tabulate-spec =
     tie.close
     (tie.spec
-    Inv-loop
-    μ-loop
     (λ c κs. search needs)
-    (λ c. search needs)
-    loop-holds
-    (λ c. let h = below c in omega arith)
-    (λ c. below c)
-    (λ c. let h = below (c .before) in omega arith)
-    (λ c. below (c .before))
     (λ c κs. search needs)
-    (λ c κs. below (c .before .before .before .before .before .before .before))
-    (λ c. let h = below (c .before .before .before .before .before .before .before .before) in omega arith)
-    (λ c. let h = c .before .before .before .before .before .before .before .before .loop-test .taken in omega arith)
-    loop-again
-    returns)
+    (λ c κs. search needs)
+    (λ c κs. search needs)
+    (λ c κs. search needs)
+    (λ c κs. search needs)
+    (λ c κs. search needs)
+    (λ c κs. search needs)
+    (λ c κs. search needs)
+    none
+    some)

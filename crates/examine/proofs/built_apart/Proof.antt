@@ -4,7 +4,7 @@ use mathlib.Core.Bool.{true, _&&_}
 use mathlib.Core.Path.{_≡_}
 use lib.Dec.{leb}
 use borrow.Author.Needs.{needs}
-use Rattle.scan.specs.Booleans.{both}
+use Rattle.scans.specs.Booleans.{both}
 use Rattle.system.specs.Answers.{SystemOutcome}
 use Rattle.system.specs.Shape as system
 use Rattle.policy.specs.Accounts.{PolicyOutcome, builtPolicy}

@@ -13,9 +13,9 @@ use Rattle.host.specs.declared.Outcome.{Outcome}
 use Rattle.host.specs.Outcomes.{HostOutcome, hostOutcome}
 use Rattle.records.specs.declared.Record.{Record}
 use Rattle.script.specs.declared.Script.{Script}
-use Rattle.script.proofs.Laws.{scriptOf, placed-as}
+use Rattle.script.specs.Script.{scriptOf}
 use Rattle.text.specs.Lines.{answerLine}
-use Rattle.text.specs.Places.{Placed, placed-then}
+use Rattle.text.specs.Places.{Placed, placed-then, placed-as}
 use Rattle.records.specs.Records.{recordAt}
 use Rattle.examine.specs.Examine.{answered, answeredBy, after, hostShown, text}
 use Rattle.examine.proofs.examined.Statement.{statement}

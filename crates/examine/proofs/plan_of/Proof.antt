@@ -5,7 +5,7 @@ use mathlib.Core.Path.{_≡_, _∙_}
 use mathlib.Core.List.{List}
 use borrow.Author.Needs.{needs}
 use borrow.Author.Tests.{eq-eqb, ne-eqb}
-use Rattle.host.specs.declared.Call.{Call}
+use Rattle.calls.specs.declared.Call.{Call}
 use Rattle.records.specs.declared.Record.{Record}
 use Rattle.records.specs.declared.MaybeCall.{MaybeCall}
 use Rattle.records.specs.Records.{afterBuild, planOf}

@@ -6,9 +6,8 @@ use mathlib.Core.List.{List}
 use borrow.Author.Needs.{needs}
 use Rattle.host.specs.declared.Host.{Host}
 use Rattle.records.specs.declared.Record.{Record}
-use Rattle.test_reads.specs.Reads.{readsText, reads-placed}
-use Rattle.text.specs.Places.{Placed, placed-none}
-use Rattle.script.proofs.Laws.{placed-as}
+use Rattle.test_reads.specs.Reads.{readsText, readsRoom}
+use Rattle.text.specs.Places.{Placed, placed-none, placed-within, placed-as}
 use Rattle.examine.specs.Examine.{queryOf, hostShown}
 use Rattle.examine.proofs.put_host.Statement.{statement}
 use Rattle.examine.proofs.put_host.Tie as tie
@@ -30,7 +29,7 @@ returns c =
     let start = built .before .before in
     let a = start .args in
     let same = ap (readsText (a .h .system) (a .h .scheduler)) (query .query-of .ensures) in
-    placed-as (reads-placed (start .pre) (put .reads .ensures .0) (put .reads .ensures .1)) (same ∙ shown (a .h) (a .r) (built .if1 .taken)) refl refl
+    placed-as (placed-within readsRoom (start .pre) (put .reads .ensures .0) (put .reads .ensures .1)) (same ∙ shown (a .h) (a .r) (built .if1 .taken)) refl refl
 
 returns-2 : tie.Need-returns-2
 returns-2 c =

@@ -5,33 +5,28 @@ use mathlib.Core.Logic.{⊎-elim}
 use native.Mathlib.Numerals.{add-one}
 use native.Mathlib.Omega.{arith}
 use borrow.Author.Needs.{needs}
-use Rattle.scan.specs.Scan.{scan}
-use Rattle.moves.specs.Decide.{firstIdlePcpuFor, placement, chosen}
-use Rattle.moves.specs.Table.{tabled}
-use Rattle.moves.specs.Internal.{LeadsChosen, none}
-use Rattle.moves.proofs.PlacementLoop.{skips, unplaced, takes, stays}
+use Rattle.scans.specs.Scan.{scan}
+use Rattle.moves.specs.Decide.{chosen}
+use Rattle.moves.specs.Leads.{LeadsChosen, none}
+use Rattle.moves.proofs.PlacementLoop.{first-for, skips, unplaced, takes, stays}
 use Rattle.moves.proofs.best_placement.Statement.{statement}
 use Rattle.moves.proofs.best_placement.Tie as tie
 
 abbrev Inv-loop : tie.InvT-loop
-Inv-loop kind mask service weight n idle best₀ i₀ best i = (i ≤ n) × LeadsChosen kind mask service weight idle i best
+Inv-loop table n idle best₀ i₀ best i = (i ≤ n) × LeadsChosen table idle i best
 
 abbrev μ-loop : tie.MeasureT-loop
-μ-loop kind mask service weight n idle best₀ i₀ best i = n - i
+μ-loop table n idle best₀ i₀ best i = n - i
 
 loop-holds : tie.Need-loop-holds Inv-loop μ-loop
 unfolding chosen scan
 loop-holds c = (zero-le, none refl refl)
 
 loop-again : tie.Need-loop-again Inv-loop μ-loop
-unfolding tabled firstIdlePcpuFor placement
 loop-again c =
     let l = c .before .before .before in
     let a = l .before .args in
-    let k = a .kind .now in
-    let m = a .mask .now in
-    let s = a .service .now in
-    let h = a .weight .now in
+    let t = a .table .now in
     let d = a .idle in
     let i = l .loop .i in
     let best = l .loop .best in
@@ -41,17 +36,19 @@ loop-again c =
           add-one
           (⊎-elim
           (λ w.
+          let p = first-for t d i _ _ (w .1 .ensures) (w .2 .ensures) in
           rw (w .8)
-          (takes k m s h d best _ (record { found = refl; served = w .4 .ensures; weighs = refl; placed = w .2 .ensures }) lead
+          (takes t d best _ (record { found = refl; served = w .4 .ensures; weighs = refl; placed = p }) lead
           (w .0 .taken) (w .3 .taken) (sym (w .6 .ensures) ∙ w .7 .taken)))
           (⊎-elim
           (λ w.
+          let p = first-for t d i _ _ (w .1 .ensures) (w .2 .ensures) in
           rw (w .8)
-          (stays k m s h d best _ (record { found = refl; served = w .4 .ensures; weighs = refl; placed = w .2 .ensures }) lead
+          (stays t d best _ (record { found = refl; served = w .4 .ensures; weighs = refl; placed = p }) lead
           (sym (w .6 .ensures) ∙ w .7 .left)))
           (⊎-elim
-          (λ w. rw (w .4) (unplaced k m s h d i _ best (w .2 .ensures) (w .3 .left) lead))
-          (λ w. rw (w .1) (skips k m s h d i best (w .0 .left) lead))))
+          (λ w. rw (w .4) (unplaced t d i _ best (first-for t d i _ _ (w .1 .ensures) (w .2 .ensures)) (w .3 .left) lead))
+          (λ w. rw (w .1) (skips t d i best (w .0 .left) lead))))
           (c .if1 .came)),
     )
 
@@ -71,9 +68,11 @@ best-placement-spec =
     (λ c. search needs)
     (λ c. search needs)
     (λ c. search needs)
+    (λ c κs. search needs)
+    (λ c κs. search needs)
+    (λ c κs. search needs)
     (λ c. search needs)
-    (λ c κs. search needs)
-    (λ c κs. search needs)
+    (λ c. search needs)
     (λ c. search needs)
     (λ c. search needs)
     (λ c κs. search needs)

@@ -5,19 +5,19 @@ use mathlib.Core.Logic.{⊎-elim}
 use native.Mathlib.Numerals.{add-one}
 use native.Mathlib.Omega.{arith}
 use borrow.Author.Needs.{needs}
-use Rattle.scan.specs.Scan.{scan}
+use Rattle.scans.specs.Scan.{scan}
 use Rattle.moves.specs.Decide.{victim}
 use Rattle.moves.specs.Table.{tabled}
-use Rattle.moves.specs.Internal.{none}
+use Rattle.moves.specs.Leads.{none}
 use Rattle.moves.proofs.PreemptionLoop.{Leading, skips, unbeaten, takes, stays}
 use Rattle.moves.proofs.best_preemption.Statement.{statement}
 use Rattle.moves.proofs.best_preemption.Tie as tie
 
 abbrev Inv-loop : tie.InvT-loop
-Inv-loop kind mask service weight n worst₀ i₀ worst i = (i ≤ n) × Leading kind mask service weight n i worst
+Inv-loop table n worst₀ i₀ worst i = (i ≤ n) × Leading table n i worst
 
 abbrev μ-loop : tie.MeasureT-loop
-μ-loop kind mask service weight n worst₀ i₀ worst i = n - i
+μ-loop table n worst₀ i₀ worst i = n - i
 
 loop-holds : tie.Need-loop-holds Inv-loop μ-loop
 unfolding scan
@@ -32,10 +32,7 @@ unfolding tabled
 loop-again c =
     let l = c .before .before .before in
     let a = l .before .args in
-    let k = a .kind .now in
-    let m = a .mask .now in
-    let s = a .service .now in
-    let h = a .weight .now in
+    let t = a .table .now in
     let n = a .n in
     let i = l .loop .i in
     let worst = l .loop .worst in
@@ -46,16 +43,16 @@ loop-again c =
           (⊎-elim
           (λ w.
           rw (w .7)
-          (takes k m s h n worst _ (record { found = refl; served = w .1 .ensures; weighs = refl; placed = refl }) lead
+          (takes t n worst _ (record { found = refl; served = w .1 .ensures; weighs = refl; placed = refl }) lead
           (w .0 .taken) (sym (w .5 .ensures) ∙ w .6 .taken) (sym (w .3 .ensures) ∙ w .4 .taken)))
           (⊎-elim
-          (λ w. rw (w .7) (unbeaten k m s h n i worst (sym (w .5 .ensures) ∙ w .6 .left) lead))
+          (λ w. rw (w .7) (unbeaten t n i worst (sym (w .5 .ensures) ∙ w .6 .left) lead))
           (⊎-elim
           (λ w.
           rw (w .5)
-          (stays k m s h n worst _ (record { found = refl; served = w .1 .ensures; weighs = refl; placed = refl }) lead
+          (stays t n worst _ (record { found = refl; served = w .1 .ensures; weighs = refl; placed = refl }) lead
           (sym (w .3 .ensures) ∙ w .4 .left)))
-          (λ w. rw (w .1) (skips k m s h n i worst (w .0 .left) lead))))
+          (λ w. rw (w .1) (skips t n i worst (w .0 .left) lead))))
           (c .if1 .came)),
     )
 
@@ -75,7 +72,10 @@ best-preemption-spec =
     loop-holds
     (λ c. search needs)
     (λ c. search needs)
+    (λ c. search needs)
     (λ c κs. search needs)
+    (λ c. search needs)
+    (λ c. search needs)
     (λ c. search needs)
     (λ c. search needs)
     (λ c κs. search needs)

@@ -7,7 +7,7 @@ use native.Mathlib.Numerals.{add-one}
 use native.Mathlib.Omega.{arith}
 use borrow.Author.Needs.{needs}
 use borrow.Author.Tests.{eq-eqb, ne-eqb}
-use Rattle.scan.specs.Scan.{scan}
+use Rattle.scans.specs.Scan.{scan}
 use Rattle.moves.specs.Decide.{beaten}
 use Rattle.moves.specs.DecideLaws.{by-beaten}
 use Rattle.moves.specs.Table.{tabled}
@@ -16,10 +16,10 @@ use Rattle.moves.proofs.some_affine_waiter_beats.Statement.{statement}
 use Rattle.moves.proofs.some_affine_waiter_beats.Tie as tie
 
 abbrev Inv-loop : tie.InvT-loop
-Inv-loop kind mask service weight n runner s i₀ i = (i ≤ n) × (beaten (tabled kind mask service weight 0) i (runner .at) ≡ false)
+Inv-loop table n runner s i₀ i = (i ≤ n) × (beaten (tabled table 0) i (runner .at) ≡ false)
 
 abbrev μ-loop : tie.MeasureT-loop
-μ-loop kind mask service weight n runner s i₀ i = n - i
+μ-loop table n runner s i₀ i = n - i
 
 loop-holds : tie.Need-loop-holds Inv-loop μ-loop
 unfolding beaten scan
@@ -30,27 +30,25 @@ unfolding tabled
 found c =
     let r = c .before .before .before in
     let q = r .before .before in
-    let w = q .before .before in
+    let m = q .before in
+    let w = m .before in
     let l = w .before .before .before in
     let a = l .before .before .args in
-    let k = a .kind .now in
-    let m = a .mask .now in
-    let s = a .service .now in
-    let h = a .weight .now in
+    let t = a .table .now in
     let x = a .runner in
     let i = l .loop .i in
     let p = l .before .before .pre .1 in
     sym
     (by-beaten
-    (tabled k m s h 0)
+    (tabled t 0)
     (a .n)
     (x .at)
     i
     (record {
       below = search needs;
       waits = eq-eqb _ _ (w .if1 .taken);
-      admits = sym (admits-same k m s h x p i) ∙ sym (q .mask-permits .ensures) ∙ r .before .if2 .taken;
-      wins = sym (beats-same k m s h x p i _ (r .row .ensures)) ∙ sym (c .before .more-deserving .ensures) ∙ c .if3 .taken;
+      admits = sym (admits-same t x p i _ (m .mask-at .ensures)) ∙ sym (q .mask-permits .ensures) ∙ r .before .if2 .taken;
+      wins = sym (beats-same t x p i _ (r .service-at .ensures)) ∙ sym (c .before .more-deserving .ensures) ∙ c .if3 .taken;
     }))
 
 loop-again : tie.Need-loop-again Inv-loop μ-loop
@@ -58,10 +56,7 @@ unfolding tabled
 loop-again c =
     let l = c .before .before .before in
     let a = l .before .before .args in
-    let k = a .kind .now in
-    let m = a .mask .now in
-    let s = a .service .now in
-    let h = a .weight .now in
+    let t = a .table .now in
     let x = a .runner in
     let i = l .loop .i in
     let p = l .before .before .pre .1 in (
@@ -69,14 +64,14 @@ loop-again c =
       rw
           add-one
           (unbeaten
-          (tabled k m s h 0)
+          (tabled t 0)
           i
           (x .at)
           (l .loop .inv .1)
           (⊎-elim
-          (λ w. inr (inr (sym (beats-same k m s h x p i _ (w .4 .ensures)) ∙ sym (w .6 .ensures) ∙ w .7 .left)))
+          (λ w. inr (inr (sym (beats-same t x p i _ (w .4 .ensures)) ∙ sym (w .6 .ensures) ∙ w .7 .left)))
           (⊎-elim
-          (λ w. inr (inl (sym (admits-same k m s h x p i) ∙ sym (w .2 .ensures) ∙ w .3 .left)))
+          (λ w. inr (inl (sym (admits-same t x p i _ (w .1 .ensures)) ∙ sym (w .2 .ensures) ∙ w .3 .left)))
           (λ w. inl (ne-eqb _ _ (w .left))))
           (c .if1 .came))),
     )
@@ -97,9 +92,11 @@ some-affine-waiter-beats-spec =
     (λ c. search needs)
     (λ c. search needs)
     (λ c. search needs)
+    (λ c κs. search needs)
+    (λ c κs. search needs)
+    (λ c κs. search needs)
     (λ c. search needs)
-    (λ c κs. search needs)
-    (λ c κs. search needs)
+    (λ c. search needs)
     (λ c. search needs)
     (λ c. search needs)
     (λ c κs. search needs)

@@ -2,7 +2,7 @@
 use mathlib.Core.Bool.{Bool, true, false, cond}
 use mathlib.Core.Path.{_≡_, sym, _∙_}
 use borrow.Author.Needs.{needs}
-use Rattle.policy.specs.Elements.{leader}
+use Rattle.policy.specs.OneAccount.{leader}
 use Rattle.policy.proofs.leader.Statement.{statement}
 use Rattle.policy.proofs.leader.Tie as tie
 

@@ -1,12 +1,13 @@
 -- `records::call_of` meets its contract. Assumes nothing.
 use Prim.Native.Nat.{ℕ, suc, _<_}
 use mathlib.Core.Bool.{Bool, true, false}
-use mathlib.Core.Path.{_≡_, refl, sym, ap}
+use mathlib.Core.Path.{_≡_, refl, sym, ap, _∙_}
 use mathlib.Core.Logic.{⊎-elim}
 use native.Mathlib.Nat.{eq-or-lt-of-le}
 use lib.Dec.{ltb}
 use lib.ListN.{getD, List·getD-eq-default}
 use native.Mathlib.Omega.{arith}
+use borrow.Author.Needs.{needs}
 use borrow.Author.Tests.{ltb-true, ltb-false}
 use Rattle.records.specs.declared.Record.{Record}
 use Rattle.records.specs.declared.MaybeCall.{MaybeCall}
@@ -19,25 +20,25 @@ kind-is : (r : Record) (k : ℕ) → r .kind ≡ k → getD (callsOf r) k MaybeC
 kind-is r k e = sym (ap (λ (j : ℕ). getD (callsOf r) j MaybeCall.None) e)
 
 admits : tie.Need-returns
-admits c = kind-is (c .before .args .r) 1 (c .match .keys1)
+admits c = c .asked .ensures ∙ kind-is (c .before .before .args .r) 1 (c .before .match .keys1)
 
 runs : tie.Need-returns-2
-runs c = kind-is (c .before .args .r) 2 (c .match .keys2)
+runs c = c .asked2 .ensures ∙ kind-is (c .before .before .args .r) 2 (c .before .match .keys2)
 
 preempts : tie.Need-returns-3
-preempts c = kind-is (c .before .args .r) 3 (c .match .keys3)
+preempts c = c .asked3 .ensures ∙ kind-is (c .before .before .args .r) 3 (c .before .match .keys3)
 
 blocks : tie.Need-returns-4
-blocks c = kind-is (c .before .args .r) 4 (c .match .keys4)
+blocks c = c .asked4 .ensures ∙ kind-is (c .before .before .args .r) 4 (c .before .match .keys4)
 
 wakes : tie.Need-returns-5
-wakes c = kind-is (c .before .args .r) 5 (c .match .keys5)
+wakes c = c .asked5 .ensures ∙ kind-is (c .before .before .args .r) 5 (c .before .match .keys5)
 
 offlines : tie.Need-returns-6
-offlines c = kind-is (c .before .args .r) 6 (c .match .keys6)
+offlines c = c .asked6 .ensures ∙ kind-is (c .before .before .args .r) 6 (c .before .match .keys6)
 
 masks : tie.Need-returns-7
-masks c = kind-is (c .before .args .r) 7 (c .match .keys7)
+masks c = c .asked7 .ensures ∙ kind-is (c .before .before .args .r) 7 (c .before .match .keys7)
 
 weighs : tie.Need-returns-8
 weighs c = kind-is (c .before .args .r) 8 (c .match .keys8)
@@ -77,4 +78,14 @@ none c = go (ltb k 11) refl
     go false e = sym (List·getD-eq-default (callsOf r) MaybeCall.None (ltb-false k 11 e))
 
 pub call-of-spec : {M : Type 1} → statement M
-call-of-spec = tie.close (tie.spec admits runs preempts blocks wakes offlines masks weighs advances boosts none)
+call-of-spec =
+    tie.close
+    (tie.spec
+    (λ c κs. search needs)
+    (λ c κs. search needs)
+    (λ c κs. search needs)
+    (λ c κs. search needs)
+    (λ c κs. search needs)
+    (λ c κs. search needs)
+    (λ c κs. search needs)
+    admits runs preempts blocks wakes offlines masks weighs advances boosts none)

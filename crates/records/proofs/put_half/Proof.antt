@@ -1,22 +1,25 @@
--- `records::put_half` meets its contract: the two stores are the definition's. Assumes nothing.
-use Prim.Native.Nat.{_/_, _<_}
-use native.Mathlib.Nat.{div-one, mod-eq-of-lt}
-use native.Mathlib.Numerals.{add-one}
+-- `records::put_half` meets its contract: the stores are those of the number's bytes. Assumes nothing.
 use native.Mathlib.Omega.{arith}
 use lib.ListN.{length-set}
 use borrow.Author.Needs.{needs}
-use Rattle.big_endian.specs.Numbers.{bytes}
+use Rattle.big_endian.specs.Stores.{stored-half}
 use Rattle.records.proofs.put_half.Statement.{statement}
 use Rattle.records.proofs.put_half.Tie as tie
 
 returns : tie.Need-returns
-unfolding bytes
 returns c =
-    let upper : c .args .n / 256 < 256 = omega arith in
-    simp (div-one, add-one, mod-eq-of-lt upper)
+    let a = c .before .before .args in
+    stored-half (a .out .now) (a .at) (a .n) (c .half-bytes .ensures)
 
 pub put-half-spec : {M : Type 1} → statement M
 put-half-spec =
     tie.close
-    (tie.spec (λ c. search needs) (λ c. search needs) (λ c. search needs) (λ c. search needs) (λ c. simp length-set (omega arith))
-    (λ c. search needs) returns)
+    (tie.spec
+    (λ c κs. search needs)
+    (λ c. search needs)
+    (λ c. search needs)
+    (λ c. search needs)
+    (λ c. search needs)
+    (λ c. simp length-set (omega arith))
+    (λ c. search needs)
+    returns)

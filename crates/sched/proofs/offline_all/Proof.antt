@@ -9,21 +9,21 @@ use borrow.Author.Needs.{needs}
 use borrow.Author.Tests.{not-true, not-false, lt-ltb, le-ltb}
 use Rattle.system.specs.Reads.{vcpuAt}
 use Rattle.system.specs.Writes.{Tables}
-use Rattle.system.specs.Slots.{domains, vcpus, slot, slot-below, slot-who}
+use Rattle.system.specs.Slots.{domains, vcpus}
 use Rattle.verdict.specs.Sound.{Sound, sound-iff}
 use Rattle.verdict.specs.Violations.{invariantsHold}
-use Rattle.changes.specs.declared.Request.{Request}
-use Rattle.sched.specs.Steps.{done, changeOf, offlineFirst, offlineAll}
-use Rattle.sched.proofs.Stores.{made-by-stores}
-use Rattle.sched.proofs.OfflineAllLoop.{Turn, next-turn, turn-change, turn-in-table, turned}
+use Rattle.calls.specs.declared.Request.{Request}
+use Rattle.sched.specs.Steps.{done, offlineFirst, offlineAll}
+use Rattle.sched.proofs.About.{pcpu-read-below}
+use Rattle.sched.proofs.OfflineAllLoop.{Turn, next-turn, turned}
 use Rattle.sched.proofs.offline_all.Statement.{statement}
 use Rattle.sched.proofs.offline_all.Tie as tie
 
 abbrev Inv-loop : tie.InvT-loop
-Inv-loop dom now s₀ d full n u₀ s u = (s ≡ offlineFirst s₀ dom now u) × (u ≤ n)
+Inv-loop dom now s₀ n frame u₀ s u = (s ≡ offlineFirst s₀ dom now u) × (u ≤ n)
 
 abbrev μ-loop : tie.MeasureT-loop
-μ-loop dom now s₀ d full n u₀ s u = n - u
+μ-loop dom now s₀ n frame u₀ s u = n - u
 
 hold : (c : tie.Else1 Inv-loop μ-loop) → invariantsHold (c .before .before .args .t1) ≡ true
 hold c = sym (c .before .invariants-hold .ensures) ∙ not-false _ (c .if1 .left)
@@ -33,7 +33,9 @@ sound c = sound-iff _ .0 (hold c)
 
 unsound : tie.Need-returns Inv-loop μ-loop
 unfolding offlineAll
-unsound c = rw (sym (c .before .before .invariants-hold .ensures) ∙ not-true _ (c .before .if1 .taken)) (c .refused .ensures)
+unsound c =
+    let t = c .before in
+    rw (sym (t .before .invariants-hold .ensures) ∙ not-true _ (t .if1 .taken)) (c .refused .ensures)
 
 no-domain : tie.Need-returns-2 Inv-loop μ-loop
 unfolding offlineAll offlineFirst
@@ -56,55 +58,50 @@ tables c =
 domain-in : (c : tie.Else2 Inv-loop μ-loop) → let a = c .before .before .before .args in a .dom < domains (a .t1)
 domain-in c = let S = sound (c .before) in omega (arith, S .domains, c .if2 .left)
 
-vcpu-in : (c : tie.In-loop Inv-loop μ-loop) → c .before .loop .u < vcpus (c .before .before .before .before .before .before .args .t1)
-vcpu-in c = let S = sound (c .before .before .before .before) in omega (arith, S .vcpus, c .loop-test .taken)
+vcpu-in : (c : tie.In-loop Inv-loop μ-loop) →
+    let l = c .before in
+    l .loop .u < vcpus (l .before .before .before .before .args .t1)
+vcpu-in c = let S = sound (c .before .before .before) in omega (arith, S .vcpus, c .loop-test .taken)
 
 -- what is known at a turn
 turn : (c : tie.In-loop Inv-loop μ-loop) →
     let l = c .before in
-    let a = l .before .before .before .before .before .args in
+    let a = l .before .before .before .before .args in
     Turn (a .t1) (l .loop .s) (a .dom) (a .now) (l .loop .u)
 turn c =
-    let d = c .before .before .before in
-    let S = sound (d .before) in
-    next-turn (c .before .loop .inv .0) (tables (d .before .before .before)) S (domain-in d) (vcpu-in c)
+    let l = c .before in
+    let e = l .before .before in
+    next-turn (l .loop .inv .0) (tables (e .before .before)) (sound e) (domain-in (l .before)) (vcpu-in c)
 
-slot-in : tie.Need-element-copy-out-v Inv-loop μ-loop
-slot-in c = slot-below (turn c .present)
-
-change :
-    (c : tie.After-changed Inv-loop μ-loop) →
-    let l = c .before .before .before in
-    let a = l .before .before .before .before .before .args in
-    c .changed .result ≡ changeOf (l .loop .s) (slot (a .dom) (l .loop .u)) (Request.Offline (a .now))
-unfolding vcpuAt
-change c = c .changed .ensures ∙ rw (c .before .before .before .before .full-mask .ensures) (turn-change (turn (c .before .before)))
-
+-- the index of the vCPU's pCPU is in the table
 pcpu-in : tie.Need-element-copy-out-c Inv-loop μ-loop
-pcpu-in c = rw (c .pcpu-of .ensures, change (c .before)) (turn-in-table (turn (c .before .before .before)))
+unfolding vcpuAt
+pcpu-in c =
+    let i = c .before .before in
+    let l = i .before .before in
+    let now = l .before .before .before .before .args .now in
+    rw (c .pcpu-read .ensures) (pcpu-read-below (Request.Offline now) (vcpuAt (l .loop .s) (i .slot-read .result)))
 
 loop-again : tie.Need-loop-again Inv-loop μ-loop
 loop-again c =
-    let r = c .before .before in
-    let p = r .before .before in
-    let t = p .before .before .before in
-    let l = t .loop-test .taken in (
-      rw add-one
-          (turned (turn t)
-          (made-by-stores _ _ (change (p .before)) (sym (slot-who _ _ (omega (arith, vcpu-in t)))) (p .pcpu-of .ensures) (r .stored .ensures))),
-      omega arith,
-    )
+    let e = c .before .before in
+    let p = e .before .before in
+    let i = p .before .before in
+    let t = i .before in
+    let l = t .loop-test .taken in
+    (rw add-one (turned (turn t) (i .slot-read .ensures) (p .pcpu-read .ensures) (e .effect-of .ensures)), omega arith)
 
 all-off : tie.Need-returns-3 Inv-loop μ-loop
 unfolding offlineAll
 all-off c =
     let l = c .before in
-    let d = l .before .before in
-    let a = d .before .before .before .args in
-    let S = sound (d .before) in
-    let e : l .loop .u ≡ vcpus (a .t1) = omega (arith, S .vcpus, l .loop .inv .1, c .loop-test .left) in
-    rw (hold (d .before), lt-ltb (a .dom) (domains (a .t1)) (domain-in d))
-    (ap done (l .loop .inv .0 ∙ ap (offlineFirst (a .t1) (a .dom) (a .now)) e))
+    let d = l .before in
+    let e = d .before in
+    let a = e .before .before .args in
+    let S = sound e in
+    let n : l .loop .u ≡ vcpus (a .t1) = omega (arith, S .vcpus, l .loop .inv .1, c .loop-test .left) in
+    rw (hold e, lt-ltb (a .dom) (domains (a .t1)) (domain-in d))
+    (ap done (l .loop .inv .0 ∙ ap (offlineFirst (a .t1) (a .dom) (a .now)) n))
 
 pub offline-all-spec : {M : Type 1} → statement M
 offline-all-spec =
@@ -117,23 +114,20 @@ offline-all-spec =
     unsound
     (λ c κs. search needs)
     no-domain
-    (λ c κs. search needs)
     loop-holds
-    (λ c. let h = slot-in c in omega arith)
-    (λ c. let h = slot-in c in omega arith)
-    (λ c. let h = slot-in c in omega arith)
-    slot-in
+    (λ c. let n = vcpu-in c in omega arith)
     (λ c κs. search needs)
+    (λ c. search needs)
+    (λ c. search needs)
     (λ c κs. search needs)
-    (λ c. let h = pcpu-in c in omega arith)
+    (λ c. omega (arith, pcpu-in c))
     pcpu-in
-    (λ c. let n = vcpu-in (c .before .before .before .before) in omega arith)
     (λ c κs. search needs)
-    (λ c. let h = slot-in (c .before .before .before .before .before .before .before) in omega arith)
-    (λ c. slot-in (c .before .before .before .before .before .before .before))
-    (λ c. let h = pcpu-in (c .before .before .before .before) in omega arith)
+    (λ c. search needs)
+    (λ c. search needs)
+    (λ c. omega (arith, pcpu-in (c .before .before .before .before)))
     (λ c. pcpu-in (c .before .before .before .before))
-    (λ c. let l = c .before .before .before .before .before .before .before .loop-test .taken in omega arith)
+    (λ c. let n = vcpu-in (c .before .before .before .before .before .before .before) in omega arith)
     (λ c. let l = c .before .before .before .before .before .before .before .loop-test .taken in omega arith)
     loop-again
     all-off)

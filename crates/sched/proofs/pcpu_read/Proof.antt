@@ -5,10 +5,10 @@ use types.Run.{OneOf, miss}
 use denote.Enum.Declared.{tagOf}
 use borrow.Author.Needs.{needs}
 use Rattle.system.specs.declared.VirtualCpu.{VirtualCpu}
-use Rattle.verdict.specs.Elements.{pcpuIndex}
-use Rattle.changes.proofs.Request.{the-type}
-use Rattle.changes.specs.declared.Request.{Request}
-use Rattle.sched.specs.Elements.{pcpuRead}
+use Rattle.verdict.specs.OneViolation.{pcpuIndex}
+use Rattle.calls.proofs.Request.{the-type}
+use Rattle.calls.specs.declared.Request.{Request}
+use Rattle.sched.specs.RequestInPlace.{pcpuRead}
 use Rattle.sched.proofs.pcpu_read.Statement.{statement}
 use Rattle.sched.proofs.pcpu_read.Tie as tie
 

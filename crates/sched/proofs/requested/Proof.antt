@@ -11,7 +11,7 @@ use Rattle.verdict.specs.Violations.{invariantsHold}
 use Rattle.verdict.proofs.Laws.{index-below}
 use Rattle.verdict.proofs.Laws.{Testing, testing-starts, testing-rests, testing-backed, testing-broken, testing-even, testing-uneven}
 use Rattle.sched.proofs.About.{pcpu-read-below}
-use Rattle.sched.proofs.Elements.{requested-by-stores}
+use Rattle.sched.proofs.RequestInPlace.{requested-by-stores}
 use Rattle.sched.proofs.requested.Statement.{statement}
 use Rattle.sched.proofs.requested.Tie as tie
 
@@ -75,7 +75,7 @@ there c =
     let p = e .before .before in
     let j = p .before .before in
     let a = j .before .before .before .before .before .before .before .before .args in
-    requested-by-stores (a .t1) (a .dom) (a .vcpu) (a .request) (verdict (j .before)) (j .slot-read .ensures) (p .pcpu-read .ensures)
+    requested-by-stores (a .t1) (a .dom) (a .vcpu) (a .request) _ _ _ _ (verdict (j .before)) (j .slot-read .ensures) (p .pcpu-read .ensures)
     (e .effect-of .ensures)
 
 pub requested-spec : {M : Type 1} → statement M

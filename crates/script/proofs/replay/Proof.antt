@@ -16,16 +16,16 @@ limit c =
     let fits = ap (λ (n : ℕ). length (c .before .before .before .before .before .args .out .now) / n) (c .before .room-of .ensures) in
     c .least .ensures ∙ ap₂ min (c .before .before .records-in .ensures) fits
 
-stepped-requires : tie.Need-stepped-requires
-stepped-requires c κs = omega (arith, limit (c .before))
+in-place : tie.Need-replay-in-place-requires
+in-place c κs = omega (arith, limit (c .before))
 
 returns : tie.Need-returns
 returns c =
     let call = c .before .before in
     let most = call .before .before in
     let a = most .before .before .before .before .before .args in
-    subst (λ (n : ℕ). Replayed (a .states) (a .script) (a .bytes .now) n (a .out .now) (call .stepped .result) (call .stepped .last .1 .1 .0))
-    (limit most) (call .stepped .ensures)
+    subst (λ (n : ℕ). Replayed (a .states) (a .script) (a .bytes .now) n (a .out .now) (call .replay-in-place .result) (call .replay-in-place .last .1 .1 .0))
+    (limit most) (call .replay-in-place .ensures)
 
 pub replay-spec : {M : Type 1} → statement M
 replay-spec =
@@ -35,6 +35,6 @@ replay-spec =
     (λ c κs. search needs)
     (λ c. omega (arith, room-least (c .before .before .before .before .args .states), c .room-of .ensures))
     (λ c κs. search needs)
-    stepped-requires
+    in-place
     (λ c. search needs)
     returns)

@@ -3,7 +3,7 @@ use mathlib.Core.Path.{_∙_, ap}
 use native.Mathlib.Nat.{zero-add}
 use borrow.Author.Needs.{needs}
 use Rattle.service.specs.Service.{value, held}
-use Rattle.service.specs.Internal.{worth}
+use Rattle.service.specs.Columns.{worth}
 use Rattle.service.proofs.from_u64.Statement.{statement}
 use Rattle.service.proofs.from_u64.Tie as tie
 

@@ -5,8 +5,7 @@ use lib.ListN.{length}
 use native.Mathlib.Omega.{arith}
 use borrow.Author.Needs.{needs}
 use Rattle.text.specs.Lines.{numbersLine}
-use Rattle.text.specs.Places.{placed-then}
-use Rattle.script.proofs.Laws.{placed-as}
+use Rattle.text.specs.Places.{placed-then, placed-as}
 use Rattle.test_reads.specs.Reads.{readsText}
 use Rattle.test_reads.proofs.put_reads.Statement.{statement}
 use Rattle.test_reads.proofs.put_reads.Tie as tie

@@ -44,17 +44,17 @@ its-body c =
     let read = found .before in
     let a = read .before .before .before .before .args in
     let s = a .file .now in
-    let offset = found .word .result in
+    let offset = found .word-at .result in
     let bytes = vcpusIn s (a .domain) * 20 in
     let count = le-leb _ _ (read .before .before .if1 .left) in
     let domain = lt-ltb _ _ (read .before .if2 .left) in
     let line = le-leb _ _ (read .if3 .left) in
     let within : offsetIn s (a .domain) + bytes ≤ length s = omega arith in
     let body = le-leb _ _ within in
-    let long : offset + c .before .before .half .result * 20 - offset ≡ bytes = omega arith in (
+    let long : offset + c .before .before .half-at .result * 20 - offset ≡ bytes = omega arith in (
       simp (count, domain, line, body)
-          (ap (λ n. take n (drop offset s)) long ∙ ap (λ from. take bytes (drop from s)) (found .word .ensures .0)),
-      simp (count, domain, line, body) (ap (λ from. (a .file .ptr .0, from + a .file .ptr .1)) (found .word .ensures .0)),
+          (ap (λ n. take n (drop offset s)) long ∙ ap (λ from. take bytes (drop from s)) (found .word-at .ensures .0)),
+      simp (count, domain, line, body) (ap (λ from. (a .file .ptr .0, from + a .file .ptr .1)) (found .word-at .ensures .0)),
     )
 
 pub body-at-spec : {M : Type 1} → statement M

@@ -40,7 +40,7 @@ its-count c =
     let s = tested .before .before .before .before .args .file .now in
     let opening = sym (tested .before .opens .ensures) ∙ not-false _ (tested .if2 .left) in
     let shape : shaped s (domainsIn s) (vcpusEach s) ≡ true = cc (not-false (c .before .shaped .result) (c .if3 .left)) in
-    simp (opening, shape) (c .before .before .before .half .ensures .0)
+    simp (opening, shape) (c .before .before .before .half-at .ensures .0)
 
 pub domain-count-spec : {M : Type 1} → statement M
 domain-count-spec =

@@ -30,7 +30,7 @@ right-place : tie.Need-returns-2
 right-place c =
     let a = c .before .before .before .before .args in
     let right : offsetIn (a .s .now) (a .d) ≡ start (a .n) (a .k) (a .d) = omega arith in
-    simp (eq-eqb _ _ right) (ap (λ n. eqb n (a .k)) (c .half .ensures .0))
+    simp (eq-eqb _ _ right) (ap (λ n. eqb n (a .k)) (c .half-at .ensures .0))
 
 pub line-right-spec : {M : Type 1} → statement M
 line-right-spec =

@@ -56,11 +56,11 @@ its-service c =
     let first = second .before in
     let a = first .before .before .before in
     let all = four-words (a .args .body .now) (a .args .vcpu * 20 + 4) in
-    let worth : value (first .word .result ∷ second .word2 .result ∷ third .word3 .result ∷ c .word4 .result ∷ [])
+    let worth : value (first .word-at .result ∷ second .word-at2 .result ∷ third .word-at3 .result ∷ c .word-at4 .result ∷ [])
     ≡ serviceAt (a .args .body .now) (a .args .vcpu) =
     simp (lt-ltb _ _ (first .before .if1 .left))
-    (omega (arith, all, first .word .ensures .0, second .word2 .ensures .0, third .word3 .ensures .0, c .word4 .ensures .0)) in (
-      words-held _ _ _ _ (first .word .ensures .1) (second .word2 .ensures .1) (third .word3 .ensures .1) (c .word4 .ensures .1) ∙ ap held worth,
+    (omega (arith, all, first .word-at .ensures .0, second .word-at2 .ensures .0, third .word-at3 .ensures .0, c .word-at4 .ensures .0)) in (
+      words-held _ _ _ _ (first .word-at .ensures .1) (second .word-at2 .ensures .1) (third .word-at3 .ensures .1) (c .word-at4 .ensures .1) ∙ ap held worth,
       worth,
     )
 

@@ -29,14 +29,14 @@ one-is-zero : tie.Need-returns Inv-loop μ-loop
 one-is-zero c =
     let at = c .before .before .before in
     let a = at .before .before .args in
-    let here = lt-leb 1 (weight (a .s .now) (a .from) (at .loop .i)) (omega (arith, c .before .word .ensures .0)) in
+    let here = lt-leb 1 (weight (a .s .now) (a .from) (at .loop .i)) (omega (arith, c .before .word-at .ensures .0)) in
     sym (one-fails (a .m) _ (at .loop .i) (omega arith) here)
 
 one-more : tie.Need-loop-again Inv-loop μ-loop
 one-more c =
     let at = c .before .before .before in
     let a = at .before .before .args in
-    let here = le-leb 1 (weight (a .s .now) (a .from) (at .loop .i)) (omega (arith, c .before .word .ensures .0)) in
+    let here = le-leb 1 (weight (a .s .now) (a .from) (at .loop .i)) (omega (arith, c .before .word-at .ensures .0)) in
     (omega arith, all-more (at .loop .i) _ (at .loop .inv .1) here)
 
 all-weighed : tie.Need-returns-2 Inv-loop μ-loop

@@ -8,7 +8,7 @@ no-vcpu : tie.Need-returns
 no-vcpu c = simp (le-ltb _ _ (c .if1 .taken))
 
 its-weight : tie.Need-returns-2
-its-weight c = simp (lt-ltb _ _ (c .before .if1 .left)) (c .word .ensures .0)
+its-weight c = simp (lt-ltb _ _ (c .before .if1 .left)) (c .word-at .ensures .0)
 
 pub weight-at-spec : {M : Type 1} → statement M
 weight-at-spec =

@@ -1,11 +1,10 @@
 -- `usage_text::body_text` meets its contract. Assumes nothing.
 use Prim.Native.Nat.{ℕ, _≤_}
-use mathlib.Core.Path.{_≡_, refl, sym, _∙_, ap₂}
+use mathlib.Core.Path.{sym, _∙_, ap₂}
 use mathlib.Core.List.{List}
 use native.Mathlib.Nat.{zero-add}
 use native.Mathlib.Omega.{arith}
 use lib.ListN.{length, length-replicate}
-use borrow.Author.Needs.{needs}
 use Rattle.io.proofs.Counting.{counts}
 use Rattle.usage_text.proofs.body_text.Statement.{statement}
 use Rattle.usage_text.proofs.body_text.Tie as tie

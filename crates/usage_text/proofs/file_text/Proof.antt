@@ -1,6 +1,6 @@
 -- `usage_text::file_text` meets its contract. Assumes nothing.
 use Prim.Native.Nat.{ℕ, _*_, _-_, _≤_, min, zero-le}
-use mathlib.Core.Path.{_≡_, refl, sym, _∙_, ap, ap₂, subst}
+use mathlib.Core.Path.{_≡_, sym, _∙_, ap, ap₂, subst}
 use mathlib.Core.List.{List}
 use native.Mathlib.Nat.{zero-add}
 use native.Mathlib.Numerals.{add-one}

@@ -1,17 +1,28 @@
--- `usage_write::put_word` meets its contract: the four stores are the definition's. Assumes nothing.
-use native.Mathlib.Nat.{div-one}
-use native.Mathlib.Numerals.{towards-suc}
+-- `usage_write::put_word` meets its contract: the stores are those of the number's bytes. Assumes nothing.
 use borrow.Author.Needs.{needs}
-use Rattle.big_endian.specs.Numbers.{bytes}
+use Rattle.big_endian.specs.Stores.{stored-word}
 use Rattle.usage_write.proofs.put_word.Statement.{statement}
 use Rattle.usage_write.proofs.put_word.Tie as tie
 
 returns : tie.Need-returns
-unfolding bytes
-returns c = simp (div-one, towards-suc)
+returns c =
+    let a = c .before .args in
+    stored-word (a .out .now) (a .at) (a .n) (c .word-bytes .ensures)
 
 pub put-word-spec : {M : Type 1} → statement M
 put-word-spec =
     tie.close
-    (tie.spec (λ c. search needs) (λ c. search needs) (λ c. search needs) (λ c. search needs) (λ c. search needs) (λ c. search needs)
-    (λ c. search needs) (λ c. search needs) (λ c. search needs) (λ c. search needs) (λ c. search needs) returns)
+    (tie.spec
+    (λ c κs. search needs)
+    (λ c. search needs)
+    (λ c. search needs)
+    (λ c. search needs)
+    (λ c. search needs)
+    (λ c. search needs)
+    (λ c. search needs)
+    (λ c. search needs)
+    (λ c. search needs)
+    (λ c. search needs)
+    (λ c. search needs)
+    (λ c. search needs)
+    returns)

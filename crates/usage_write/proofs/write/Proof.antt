@@ -19,7 +19,7 @@ use Rattle.policy.proofs.Laws.{looked}
 use Rattle.usage_layout.specs.Layout.{Figures, Within}
 use Rattle.usage_layout.proofs.Laws.{file-short, has-file}
 use Rattle.usage_write.specs.Written.{figuresOf}
-use Rattle.usage_write.proofs.Elements.{each-element}
+use Rattle.usage_write.proofs.EachElement.{each-element}
 use Rattle.usage_write.proofs.FileLoop.{Stored, none-stored, next-stored, absent-stored, room, file-stored}
 use Rattle.usage_write.proofs.write.Statement.{statement}
 use Rattle.usage_write.proofs.write.Tie as tie
@@ -136,6 +136,7 @@ write-spec =
     (λ c κs. search needs)
     (λ c κs. search needs)
     (λ c κs. search needs)
+    (λ c. search needs)
     (λ c κs. search needs)
     (λ c κs. search needs)
     (λ c. search needs)

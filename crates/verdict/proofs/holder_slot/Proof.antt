@@ -1,7 +1,7 @@
 -- `verdict::holder_slot` meets its contract. Assumes nothing.
 use mathlib.Core.Path.{sym, _∙_, ap}
 use borrow.Author.Needs.{needs}
-use Rattle.verdict.specs.Elements.{holderSlot}
+use Rattle.verdict.specs.OneViolation.{holderSlot}
 use Rattle.verdict.proofs.holder_slot.Statement.{statement}
 use Rattle.verdict.proofs.holder_slot.Tie as tie
 

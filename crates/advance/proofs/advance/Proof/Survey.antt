@@ -10,8 +10,9 @@ use Rattle.verdict.specs.Violations.{invariantsHold}
 use Rattle.verdict.specs.Sound.{Sound, sound-iff}
 use Rattle.verdict.proofs.Laws.{testing-starts, testing-rests, testing-backed, testing-broken, testing-even, testing-uneven, index-below}
 use Rattle.policy.proofs.Laws.{vcpu-beyond}
-use Rattle.advance.specs.Internal.{idleSet, idle-set-is}
-use Rattle.advance.proofs.DueLoop.{Seen, seen-starts, seen-next, seen-absent}
+use Rattle.settling.specs.IdleSet.{idleSet}
+use Rattle.settling.proofs.Laws.{idle-set-is}
+use Rattle.advance.proofs.SurveyLoop.{Seen, seen-starts, seen-next, seen-absent}
 use Rattle.advance.proofs.Lookups.{absent-rests}
 use Rattle.advance.proofs.advance.Proof.Loops.{With}
 use Rattle.advance.proofs.advance.Tie as tie
@@ -45,7 +46,7 @@ loop-again c =
     let S = l .loop .inv .1 in
     ⊎-elim
     (λ w.
-    let seen : Seen s (a .t2) (a .now) (c .if1 .due) (i + 1) = rw (w .12) (seen-next s (a .t2) (a .now) S (w .3 .ensures)) in
+    let seen : Seen s (a .t2) (a .now) (c .if1 .survey) (i + 1) = rw (w .12) (seen-next s (a .t2) (a .now) S (w .3 .ensures)) in
     let runs = w .4 .ensures in
     let at = w .6 .ensures in
     let told = w .8 .ensures in
@@ -81,7 +82,7 @@ surveyed c = c .before .before .before .before .before
 pub all : (c : With tie.Joined4) → surveyed c .loop .i ≡ slots (begun c .args .t1)
 all c = omega (arith, sized c .least .ensures, surveyed c .loop .inv .2, c .before .before .before .before .loop-test .left)
 
-pub seen : (c : With tie.Joined4) → let a = begun c .args in let l = surveyed c .loop in Seen (a .t1) (a .t2) (a .now) (l .due) (l .i)
+pub seen : (c : With tie.Joined4) → let a = begun c .args in let l = surveyed c .loop in Seen (a .t1) (a .t2) (a .now) (l .survey) (l .i)
 seen c = surveyed c .loop .inv .1
 
 pub verdict : (c : With tie.Joined4) → c .if4 .sound ≡ invariantsHold (begun c .args .t1)

@@ -1,0 +1,4 @@
+pub mod HostText
+pub mod Rooms
+pub mod Lengths
+pub mod Rows

@@ -1,4 +1,0 @@
--- What other crates cite of these proofs.
-
--- a call leaves what every domain used up to its clock as it was
-pub use Rattle.usage.proofs.AtItsClock.{step-usage}

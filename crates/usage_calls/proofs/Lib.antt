@@ -1,0 +1,4 @@
+pub mod Laws
+mod RecordTimes
+mod AtItsClock
+pub mod LastDomain

@@ -1,0 +1,21 @@
+-- `usage_parse::half_at` meets its contract. Assumes nothing.
+use native.Mathlib.Nat.{add-zero}
+use borrow.Author.Needs.{needs}
+use Rattle.big_endian.specs.Numbers.{number}
+use Rattle.usage_parse.proofs.half_at.Statement.{statement}
+use Rattle.usage_parse.proofs.half_at.Tie as tie
+
+returns : tie.Need-returns
+unfolding number
+returns c = (rw add-zero (c .half .ensures), search needs)
+
+pub half-at-spec : {M : Type 1} → statement M
+half-at-spec =
+    tie.close
+    (tie.spec
+    (λ c. search needs)
+    (λ c. search needs)
+    (λ c. search needs)
+    (λ c κs. search needs)
+    (λ c. search needs)
+    returns)
