@@ -1,5 +1,7 @@
 //! The moves: what to do next, and an advance that does it until nothing is left to do.
 
+#![tactic(auto)]
+
 ghost use Rattle.std.specs.Prelude.{◌≡◌, ◌<◌};
 ghost use Rattle.advance.specs.Advance.{next, advance};
 ghost use Rattle.advance.specs.Outcomes.{named_as, next_outcome, told_of, advance_outcome, counted};
@@ -11,7 +13,7 @@ use policy::{Account, Scheduler};
 use system::{Answer, DomId, Pcpu, PhysicalCpu, RunState, System, Ticks, Vcpu, VirtualCpu, least};
 
 /// What `next` recommends.
-#[derive(Drop)]
+#[derive(Clone, Copy)]
 pub enum Decision {
     Run { dom: DomId, vcpu: Vcpu, pcpu: Pcpu },
     Preempt { dom: DomId, vcpu: Vcpu, pcpu: Pcpu },
@@ -19,7 +21,7 @@ pub enum Decision {
 }
 
 /// An answer, and what is recommended.
-#[derive(Drop)]
+#[derive(Clone, Copy)]
 pub struct Recommendation {
     pub answer: Answer,
     pub decision: Decision,
@@ -27,7 +29,7 @@ pub struct Recommendation {
 
 /// An answer, the system and the policy that an advance leaves, and how many moves it enacted.
 // The answer stands last: behind it, and what pads it, the tables would be copied once more.
-#[derive(Drop)]
+#[derive(Clone, Copy)]
 pub struct Advanced {
     pub system: System,
     pub scheduler: Scheduler,
@@ -114,7 +116,7 @@ pub fn next(s: System, p: Scheduler, now: Ticks) -> Recommendation
 // ---- an advance
 
 // What there is to do, by the vCPUs that were looked at.
-#[derive(Drop)]
+#[derive(Clone, Copy)]
 struct Survey {
     // Some vCPU joined the pool since the last accounting, or left it.
     changed: bool,

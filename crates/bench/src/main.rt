@@ -5,6 +5,8 @@
 //!   2  usage files of a full host, written
 //!   3  usage files of a full host, opened
 
+#![tactic(auto)]
+
 mod advances;
 mod transitions;
 mod usage_files;

@@ -1,5 +1,7 @@
 //! Numbers in bytes, the most significant first: read from bytes by value, and their bytes.
 
+#![tactic(auto)]
+
 ghost use Rattle.std.specs.Prelude.{◌≡◌, [], ◌∷◌};
 ghost use Rattle.big_endian.specs.Numbers.{bytes, number};
 

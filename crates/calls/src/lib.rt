@@ -1,9 +1,11 @@
 //! The calls of a host as data, and what is asked of one vCPU.
 
+#![tactic(auto)]
+
 use system::{DomId, Pcpu, Ticks, Vcpu};
 
 /// What is asked of one vCPU.
-#[derive(Drop)]
+#[derive(Clone, Copy)]
 pub enum Request {
     Admit,
     Run { pcpu: Pcpu, now: Ticks },
@@ -15,7 +17,7 @@ pub enum Request {
 }
 
 /// A call of a host.
-#[derive(Drop)]
+#[derive(Clone, Copy)]
 pub enum Call {
     /// A request of one vCPU.
     Ask {

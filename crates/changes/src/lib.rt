@@ -1,6 +1,8 @@
 //! What a request does to one vCPU, by its record alone: whether it is refused, and with which record it
 //! stays, goes onto a pCPU or leaves one. Nothing here reads a system.
 
+#![tactic(auto)]
+
 ghost use Rattle.std.specs.Prelude.{◌≡◌, ◌+◌, ◌-◌, ◌^◌, min};
 ghost use Rattle.system.specs.Records.{with_mask};
 ghost use Rattle.changes.specs.Records.{with_state, dispatched, left, forgotten};
@@ -14,7 +16,7 @@ use system::{
 
 /// What a request does to its vCPU: it is refused, or the v_cPU's record is written anew, as it goes
 /// onto a pCPU or leaves one too.
-#[derive(Drop)]
+#[derive(Clone, Copy)]
 pub enum Change {
     Refuse(Answer),
     Write(VirtualCpu),
@@ -221,7 +223,7 @@ pub fn changed(request: Request, v: VirtualCpu, pcpu_count: usize) -> Change
 
 /// What a change tells, and what stands after it at the v_cPU's slot and at the change's pCPU.
 // The answer stands last: behind it the records would lie across words, and each read of them would wait.
-#[derive(Drop)]
+#[derive(Clone, Copy)]
 pub struct After {
     pub vcpu: VirtualCpu,
     pub pcpu: PhysicalCpu,

@@ -3,6 +3,8 @@
 //! script; 11 takes a domain offline, 12 builds a host whose policy has a shape of its own, and 13 to 29
 //! write one field of the host with no test.
 
+#![tactic(auto)]
+
 ghost use Rattle.std.specs.Prelude.{◌≡◌, ◌+◌, ◌≤◌, true, ◌||◌, length, ◌==◌};
 ghost use Rattle.io.specs.Counts.{IsPrefixLen};
 ghost use Rattle.system.specs.Shape.{within_sizes};
@@ -25,7 +27,7 @@ use test_reads::Query;
 const ENTRY_ROOM: usize = text::ANSWER_ROOM + test_reads::ROOM;
 
 // A script under way, and the bytes written for its last record.
-#[derive(Drop)]
+#[derive(Clone, Copy)]
 struct Written {
     script: Script,
     written: usize,
@@ -213,7 +215,7 @@ fn examined(s: Script, bytes: &[u8], out: &mut [u8]) -> Written
 // ---- the program
 
 // The script after a record, and whether all that is said of it was written.
-#[derive(Drop)]
+#[derive(Clone, Copy)]
 struct After {
     script: Script,
     put: bool,

@@ -1,10 +1,12 @@
 //! Marsaglia's 64-bit xorshift: numbers that anyone can draw again.
 
+#![tactic(auto)]
+
 ghost use Rattle.std.specs.Prelude.{◌≡◌};
 ghost use Rattle.generator.specs.Xorshift.{after, drawn_if, state_if};
 
 /// A generator. The number that it last drew is its state.
-#[derive(Drop)]
+#[derive(Clone, Copy)]
 pub struct Generator {
     pub state: u64,
 }

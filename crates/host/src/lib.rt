@@ -1,5 +1,7 @@
 //! A host: a system and a policy together, and one step.
 
+#![tactic(auto)]
+
 ghost use Rattle.std.specs.Prelude.{◌≡◌};
 ghost use Rattle.system.specs.Answers.{system_outcome};
 ghost use Rattle.advance.specs.Outcomes.{advance_outcome};
@@ -13,7 +15,7 @@ use policy::{Adjusted, Scheduler};
 use system::{Answer, System, Ticks, Transitioned};
 
 /// A system and the policy that drives it.
-#[derive(Drop)]
+#[derive(Clone, Copy)]
 pub struct Host {
     pub system: System,
     pub scheduler: Scheduler,
@@ -21,7 +23,7 @@ pub struct Host {
 
 /// An answer, the host that the call leaves, and how many moves it enacted.
 // The answer stands last: behind it, and what pads it, the host would be copied once more.
-#[derive(Drop)]
+#[derive(Clone, Copy)]
 pub struct Outcome {
     pub host: Host,
     pub count: usize,

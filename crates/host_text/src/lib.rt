@@ -1,5 +1,7 @@
 //! A host as text: a line for each vCPU, by domain, then vCPU, and one for each pCPU that somebody holds.
 
+#![tactic(auto)]
+
 ghost use Rattle.std.specs.Prelude.{◌≡◌, ◌+◌, ◌*◌, ◌≤◌, length};
 ghost use Rattle.system.specs.Slots.{domains, pcpus};
 ghost use Rattle.text.specs.Places.{Placed, put_within, end_within};

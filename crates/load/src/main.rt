@@ -2,6 +2,8 @@
 //!   load SEED DOMAINS VCPUS PCPUS SLICE COUNT
 //! What is refused stands on standard error alone. A program sets no status: `tools/load` does, by that.
 
+#![tactic(auto)]
+
 use load_script::Load;
 use records::Shape;
 use system::Answer;
@@ -11,14 +13,14 @@ use text::MaybeNumber;
 const NUMBERS: usize = 6;
 
 // An argument, and whether it is a number.
-#[derive(Drop)]
+#[derive(Clone, Copy)]
 struct Said {
     number: u64,
     good: bool,
 }
 
 // All of them, and which is the first that is no number, from 1 on; 0 where all are.
-#[derive(Drop)]
+#[derive(Clone, Copy)]
 struct Arguments {
     numbers: [u64; NUMBERS],
     bad: usize,

@@ -1,5 +1,7 @@
 //! A call of a load: the numbers that it draws, and the record that they make.
 
+#![tactic(auto)]
+
 ghost use Rattle.std.specs.Prelude.{◌≤◌, ◌≡◌};
 ghost use Rattle.load_calls.specs.Calls.{kind_of, draws_id, draws_last, numbers_drawn, state_drawn, drawn};
 ghost use Rattle.load_calls.specs.Calls.{id_of, later, clock_after, kind_number, value_of, called};
@@ -8,7 +10,7 @@ use generator::{Generator, draw, draw_if};
 use records::Record;
 
 /// The calls of a load, by the remainders that stand for them.
-#[derive(Drop)]
+#[derive(Clone, Copy)]
 pub enum Kind {
     Admit,
     Block,
@@ -18,7 +20,7 @@ pub enum Kind {
 }
 
 /// The numbers that a call draws, in their order; 0 for one that it does not draw.
-#[derive(Drop)]
+#[derive(Clone, Copy)]
 pub struct Numbers {
     pub kind: u64,
     pub dom: u64,
@@ -27,14 +29,14 @@ pub struct Numbers {
 }
 
 /// The numbers of a call, and the generator's state after them.
-#[derive(Drop)]
+#[derive(Clone, Copy)]
 pub struct Drawn {
     pub numbers: Numbers,
     pub state: u64,
 }
 
 /// The record of a call, and the generator's state and the clock after it.
-#[derive(Drop)]
+#[derive(Clone, Copy)]
 pub struct Called {
     pub call: Record,
     pub state: u64,

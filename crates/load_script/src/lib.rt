@@ -1,5 +1,7 @@
 //! A load: a script that anyone can make again from its numbers, handed out record by record.
 
+#![tactic(auto)]
+
 ghost use Rattle.std.specs.Prelude.{◌≡◌, ◌*◌, ◌<◌};
 ghost use Rattle.std.proofs.lemmas.List.Edits.{sets};
 ghost use Rattle.io.specs.Counts.{IsPrefixLen};
@@ -12,7 +14,7 @@ use system::{Answer, least};
 
 /// A load that is under way: its build, the generator, the clock, whether the build was handed out, and how many calls
 /// are still to come.
-#[derive(Drop)]
+#[derive(Clone, Copy)]
 pub struct Load {
     build: Record,
     generator: Generator,
@@ -22,34 +24,34 @@ pub struct Load {
 }
 
 /// What an opened load is told, and the load; a refused one has no records.
-#[derive(Drop)]
+#[derive(Clone, Copy)]
 pub struct Opened {
     pub answer: Answer,
     pub load: Load,
 }
 
-#[derive(Drop)]
+#[derive(Clone, Copy)]
 pub enum MaybeRecord {
     None,
     Some(Record),
 }
 
 /// The record that comes next, if there is one, and the load after it.
-#[derive(Drop)]
+#[derive(Clone, Copy)]
 pub struct Handed {
     pub next: MaybeRecord,
     pub load: Load,
 }
 
 /// The load after the records that were written, and their bytes.
-#[derive(Drop)]
+#[derive(Clone, Copy)]
 pub struct Filled {
     pub load: Load,
     pub written: usize,
 }
 
 // A record that comes next for certain, and the load after it.
-#[derive(Drop)]
+#[derive(Clone, Copy)]
 struct One {
     next: Record,
     load: Load,

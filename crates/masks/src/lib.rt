@@ -1,5 +1,7 @@
 //! Sets of physical CPUs as the bits of a `u64`: bit `p` stands for pCPU `p`.
 
+#![tactic(auto)]
+
 ghost use Rattle.std.specs.Prelude.{◌≡◌, ◌^◌, ◌<◌};
 ghost use Rattle.masks.specs.Masks.{permits, pcpu_bit, full_mask, clipped, lowest};
 ghost use Rattle.masks.specs.Table.{listed, both};

@@ -1,6 +1,8 @@
 //! The decision over a table of standings, and settling: what is decided is done to the table and logged until nothing is
 //! decided. The table is numbers, lent: a decision copies nothing, and knows neither a system nor a policy.
 
+#![tactic(auto)]
+
 ghost use Rattle.std.specs.Prelude.{◌≡◌, true, cond, ◌&&◌, ◌+◌, ◌*◌, ◌%◌, ◌^◌, ◌≤◌, ◌<◌, min, length};
 ghost use Rattle.masks.specs.Masks.{permits, first};
 ghost use Rattle.moves.specs.declared.Choice.TheVariants.{Run, Preempt};
@@ -21,7 +23,7 @@ const LEAVING: usize = 1024;
 const LAST: usize = 1280;
 
 /// One move, or none, by the slots of the table.
-#[derive(Drop)]
+#[derive(Clone, Copy)]
 pub enum Choice {
     Run { at: usize, pcpu: u32 },
     Preempt { at: usize, pcpu: u32 },
@@ -29,7 +31,7 @@ pub enum Choice {
 }
 
 /// What the table has of one slot.
-#[derive(Drop)]
+#[derive(Clone, Copy)]
 pub struct Row {
     /// 1 for one that waits, p + 2 for one that runs on pCPU p and may be preempted, 0 for any other.
     pub kind: u32,
@@ -41,7 +43,7 @@ pub struct Row {
 }
 
 // Who leads a scan so far, with its numbers at hand.
-#[derive(Drop)]
+#[derive(Clone, Copy)]
 struct Leader {
     found: bool,
     at: usize,

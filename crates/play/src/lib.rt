@@ -1,11 +1,13 @@
 //! A script played from standard input to standard output, as `replay` and `trace` do it.
 
+#![tactic(auto)]
+
 ghost use Rattle.play.specs.Stretched.{Stretched};
 
 use script::Script;
 
 // A script under way, and whether there may be more of it.
-#[derive(Drop)]
+#[derive(Clone, Copy)]
 struct Turn {
     script: Script,
     more: bool,

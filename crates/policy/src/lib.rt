@@ -1,6 +1,8 @@
 //! The policy's records: each v_cPU's weight, the service added when it joined the pool, and the
 //! snapshot of the pool; how these are set and looked up, and how an accounting renews them.
 
+#![tactic(auto)]
+
 ghost use Rattle.std.specs.Prelude.{◌≡◌};
 ghost use Rattle.service.specs.Service.{value, held};
 ghost use Rattle.system.specs.States.{schedulable};
@@ -22,7 +24,7 @@ pub const MIN_WEIGHT: Weight = 1;
 pub const DEFAULT_WEIGHT: Weight = 256;
 
 /// What the policy keeps of one vCPU.
-#[derive(Drop)]
+#[derive(Clone, Copy)]
 pub struct Account {
     pub weight: Weight,
     /// Service added for ranking: what placed a waker at the floor.
@@ -41,7 +43,7 @@ impl Account {
 }
 
 /// A scheduling policy, of a shape of its own. vCPU d/v stands at d × 8 + v.
-#[derive(Drop)]
+#[derive(Clone, Copy)]
 pub struct Scheduler {
     pub domain_count: usize,
     pub vcpus_per_domain: usize,
@@ -52,7 +54,7 @@ pub struct Scheduler {
 }
 
 /// An answer, and the policy that the call leaves.
-#[derive(Drop)]
+#[derive(Clone, Copy)]
 pub struct Adjusted {
     pub answer: Answer,
     pub policy: Scheduler,
@@ -148,7 +150,7 @@ fn is_schedulable(v: VirtualCpu) -> bool
 // ---- accounting
 
 // The service and weight of whoever leads the scan for the floor so far.
-#[derive(Drop)]
+#[derive(Clone, Copy)]
 struct Share {
     found: bool,
     service: [u32; 4],

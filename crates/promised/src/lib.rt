@@ -2,6 +2,8 @@
 //! against the page, and no other definition need be believed. A module `of_host` has the operations of the crate
 //! `host`, each under its own name.
 
+#![tactic(auto)]
+
 pub mod of_advance;
 pub mod of_generator;
 pub mod of_host;

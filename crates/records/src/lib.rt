@@ -1,5 +1,7 @@
 //! A script's record: what its 20 bytes say, and what the script does of it.
 
+#![tactic(auto)]
+
 ghost use Rattle.std.specs.Prelude.{◌≡◌, ◌+◌, ◌≤◌, length};
 ghost use Rattle.std.proofs.lemmas.List.Edits.{sets};
 ghost use Rattle.big_endian.specs.Numbers.{bytes};
@@ -14,7 +16,7 @@ use system::Answer;
 pub const RECORD: usize = 20;
 
 /// What a record says.
-#[derive(Drop)]
+#[derive(Clone, Copy)]
 pub struct Record {
     pub kind: u16,
     pub dom: u16,
@@ -24,14 +26,14 @@ pub struct Record {
 }
 
 /// A call of the host, if the kind names one.
-#[derive(Drop)]
+#[derive(Clone, Copy)]
 pub enum MaybeCall {
     None,
     Some(Call),
 }
 
 /// The shape and the slice of a host.
-#[derive(Drop)]
+#[derive(Clone, Copy)]
 pub struct Shape {
     pub num_domains: usize,
     pub vcpus_per_domain: usize,
@@ -40,7 +42,7 @@ pub struct Shape {
 }
 
 /// What a script does of a record: it is refused, or a host is built, or the host is called.
-#[derive(Drop)]
+#[derive(Clone, Copy)]
 pub enum Plan {
     Refuse(Answer),
     Build(Shape),

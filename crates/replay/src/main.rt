@@ -1,5 +1,7 @@
 //! Reads a script on standard input and writes what each record is told, a line for each.
 
+#![tactic(auto)]
+
 fn main() {
     // the bytes of 1000 records, and room for their text
     let mut input = [0u8; 20000];

@@ -1,6 +1,8 @@
 //! The mechanism: the transitions that move vCPUs between run states and pCPUs. Each takes the
 //! system and hands it back with its answer; a refused call hands it back as it came.
 
+#![tactic(auto)]
+
 ghost use Rattle.std.specs.Prelude.{◌≡◌};
 ghost use Rattle.system.specs.Answers.{system_outcome};
 ghost use Rattle.sched.specs.Steps.{refused, requested, admit, run, preempt, block, wake};
@@ -33,7 +35,7 @@ pub fn pcpu_read(request: Request, v: VirtualCpu) -> usize
 }
 
 /// What a request needs of a system beside the records that it reads.
-#[derive(Drop)]
+#[derive(Clone, Copy)]
 pub struct Frame {
     pub sound: bool,
     pub domain_count: usize,

@@ -1,6 +1,8 @@
 //! Scripts: the calls of a host as records of 20 bytes, a line for what each is told and, where it
 //! is asked for, the whole host after it.
 
+#![tactic(auto)]
+
 ghost use Rattle.std.specs.Prelude.{◌≡◌, ℕ, ◌+◌, ◌*◌, ◌/◌, ◌<◌, ◌≤◌, true, false, ◌&&◌, length, drop};
 ghost use Rattle.system.specs.Answers.{told};
 ghost use Rattle.verdict.specs.Violations.{invariants_hold};
@@ -23,7 +25,7 @@ use system::{Answer, System, least};
 pub const ENTRY_ROOM: usize = 28_700;
 
 /// A script that is under way: how many records it had, and its host, once one is built.
-#[derive(Drop)]
+#[derive(Clone, Copy)]
 pub struct Script {
     pub number: u64,
     pub built: bool,
@@ -31,7 +33,7 @@ pub struct Script {
 }
 
 /// How far a stretch of a script was taken: the script after it, its records, and the bytes written.
-#[derive(Drop)]
+#[derive(Clone, Copy)]
 pub struct Taken {
     pub script: Script,
     pub records: usize,

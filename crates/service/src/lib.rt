@@ -1,6 +1,8 @@
 //! The service of a vCPU: a number of 128 bits as four limbs of 32 bits, the least first, that
 //! stops at 2^128 - 1 and at 0.
 
+#![tactic(auto)]
+
 ghost use Rattle.std.specs.Prelude.{◌≡◌, ◌+◌, ◌*◌, ◌-◌, ◌/◌, ◌%◌, ◌^◌, ◌<◌, max, ltb};
 ghost use Rattle.service.specs.Service.{value, held, more_deserving};
 ghost use Rattle.service.specs.Columns.{worth, Small, Roomy, Carries, Splits};
@@ -9,7 +11,7 @@ ghost use Rattle.service.specs.Columns.{worth, Small, Roomy, Carries, Splits};
 pub type Service = [u32; 4];
 
 // A number as four columns, each worth 2^32 times the one before it, which may exceed a limb.
-#[derive(Drop)]
+#[derive(Clone, Copy)]
 struct Columns {
     a: u64,
     b: u64,
@@ -18,14 +20,14 @@ struct Columns {
 }
 
 // Four limbs, and what is carried out of the last.
-#[derive(Drop)]
+#[derive(Clone, Copy)]
 struct Carried {
     limbs: [u32; 4],
     out: u64,
 }
 
 // A number of at most 96 bits as its lowest digit in base 2^32 and what stands above it.
-#[derive(Drop)]
+#[derive(Clone, Copy)]
 struct Narrow {
     high: u64,
     low: u64,

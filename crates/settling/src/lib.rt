@@ -2,6 +2,8 @@
 //! pCPUs, and what a move leaves of the system. It knows no rule: whether a slot is barred, its weight
 //! and its service are handed to it.
 
+#![tactic(auto)]
+
 ghost use Rattle.std.specs.Prelude.{◌≡◌, ◌+◌, ◌*◌, min};
 ghost use Rattle.masks.specs.Sets.{set_of};
 ghost use Rattle.rules.specs.Settle.{slot_in, onto_in};

@@ -1,6 +1,8 @@
 //! The scheduler's records: where each vCPU is, how long it ran, and who holds each pCPU; how a
 //! system is built, and what can be read of one. Reads answer on a damaged system too.
 
+#![tactic(auto)]
+
 ghost use Rattle.std.specs.Prelude.{◌≡◌, cond, not, min};
 ghost use Rattle.service.specs.Service.{value, held};
 ghost use Rattle.system.specs.Answers.{told, system_outcome};
@@ -23,7 +25,7 @@ pub type Pcpu = u32;
 pub type Ticks = u64;
 
 /// What a vCPU is doing.
-#[derive(Drop)]
+#[derive(Clone, Copy)]
 pub enum RunState {
     /// Not schedulable: never admitted, or taken down again.
     Offline,
@@ -36,7 +38,7 @@ pub enum RunState {
 }
 
 /// One vCPU.
-#[derive(Drop)]
+#[derive(Clone, Copy)]
 pub struct VirtualCpu {
     pub state: RunState,
     /// Ticks on pCPUs, over closed intervals.
@@ -50,20 +52,20 @@ pub struct VirtualCpu {
 }
 
 /// Who holds a pCPU.
-#[derive(Drop)]
+#[derive(Clone, Copy)]
 pub enum Occupant {
     Idle,
     Vcpu { dom: DomId, vcpu: Vcpu },
 }
 
 /// One pCPU.
-#[derive(Drop)]
+#[derive(Clone, Copy)]
 pub struct PhysicalCpu {
     pub occupant: Occupant,
 }
 
 /// The whole system. vCPU d/v stands at d × 8 + v, whatever the counts.
-#[derive(Drop)]
+#[derive(Clone, Copy)]
 pub struct System {
     pub domain_count: usize,
     pub vcpus_per_domain: usize,
@@ -74,7 +76,7 @@ pub struct System {
 
 /// What a call is told.
 // The states found stand in the order of `RunState`: one comes from the other by a sum, not by a jump.
-#[derive(Drop)]
+#[derive(Clone, Copy)]
 pub enum Answer {
     Done,
     BadDomain,
@@ -120,25 +122,25 @@ pub fn number_of(answer: Answer) -> u64
 
 /// An answer, and the system that the call leaves.
 // The system stands first: behind the answer, and what pads that, it is copied once more.
-#[derive(Drop)]
+#[derive(Clone, Copy)]
 pub struct Transitioned {
     pub system: System,
     pub answer: Answer,
 }
 
-#[derive(Drop)]
+#[derive(Clone, Copy)]
 pub enum MaybeVcpu {
     None,
     Some(VirtualCpu),
 }
 
-#[derive(Drop)]
+#[derive(Clone, Copy)]
 pub enum MaybeState {
     None,
     Some(RunState),
 }
 
-#[derive(Drop)]
+#[derive(Clone, Copy)]
 pub enum MaybeU64 {
     None,
     Some(u64),

@@ -1,6 +1,8 @@
 //! The fields of a host as they stand in its tables, within the counts or not: one of them written
 //! with no test, which is how damaged hosts are made, and what is kept at a slot.
 
+#![tactic(auto)]
+
 ghost use Rattle.std.specs.Prelude.{◌≡◌};
 ghost use Rattle.test_fields.specs.Fields.{slot_of, pcpu_of, word_written, flag_written, state_written, occupant_written};
 ghost use Rattle.test_fields.specs.Fields.{vcpu_written, system_written, offset_written, third_written, account_written, policy_written, written};

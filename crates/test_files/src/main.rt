@@ -2,6 +2,8 @@
 //! bytes, big-endian), a domain (8) and the file. A line for each: 0 or 13, its domains, what is told of that
 //! domain and the length of that domain's body; then, of a file that is accepted, a line for each vCPU.
 
+#![tactic(auto)]
+
 use big_endian::{double, half};
 use system::{Answer, MAX_DOMAINS};
 

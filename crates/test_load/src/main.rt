@@ -1,10 +1,12 @@
 //! Writes a load record by record, as `load_script::next` hands it out, for tests: the stored sample of `load`.
 
+#![tactic(auto)]
+
 use load_script::{Load, MaybeRecord};
 use records::{Record, Shape};
 
 // A load after a record, and whether there was one and it was written.
-#[derive(Drop)]
+#[derive(Clone, Copy)]
 struct Turn {
     load: Load,
     more: bool,

@@ -1,6 +1,8 @@
 //! What can be read of a host, as five lines of numbers: a vCPU, its domain, the host with one pCPU, the
 //! verdict with the next move, eight numbers each, and the nine that are kept at the slot.
 
+#![tactic(auto)]
+
 ghost use Rattle.std.specs.Prelude.{◌≡◌, ◌+◌, ◌*◌, ◌≤◌, length};
 ghost use Rattle.text.specs.Lines.{numbers_line};
 ghost use Rattle.text.specs.Places.{Placed, put_within, end_within};
@@ -18,7 +20,7 @@ use verdict::Violation;
 pub const ROOM: usize = 866;
 
 /// What is asked about: a vCPU, a pCPU and a clock.
-#[derive(Drop)]
+#[derive(Clone, Copy)]
 pub struct Query {
     pub dom: DomId,
     pub vcpu: Vcpu,

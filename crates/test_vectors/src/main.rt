@@ -1,5 +1,7 @@
 //! The leaves on their boundaries. Each check is proved to hold, and run.
 
+#![tactic(auto)]
+
 ghost use Rattle.std.specs.Prelude.{◌≡◌, ◌+◌, ◌-◌, ◌*◌, ◌/◌, max, true, ◌↔◌, nat_lt};
 ghost use Rattle.masks.specs.Masks.{permits, full_mask, clipped, lowest};
 ghost use Rattle.service.specs.Service.{value, held, more_deserving};

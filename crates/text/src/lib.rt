@@ -1,5 +1,7 @@
 //! Lines of decimal numbers, how a line is put into a slice, and the number that a word says.
 
+#![tactic(auto)]
+
 ghost use Rattle.std.specs.Prelude.{◌≡◌, ◌+◌, ◌/◌, ◌%◌, ◌≤◌, ◌<◌, [], ◌∷◌, length, take};
 ghost use Rattle.service.specs.Service.{value};
 ghost use Rattle.text.specs.Lines.{digits, decimal, wide_decimal, field, fields, numbers_line, pcpu_line, usage_line};
@@ -13,7 +15,7 @@ use service::Service;
 pub const ANSWER_ROOM: usize = 63;
 
 /// A line: its text is the first `length` bytes.
-#[derive(Drop)]
+#[derive(Clone, Copy)]
 pub struct Line {
     pub bytes: [u8; 192],
     pub length: usize,
@@ -211,7 +213,7 @@ pub fn append(out: &mut [u8], at: usize, line: Line) -> usize
 }
 
 /// A number, or none.
-#[derive(Drop)]
+#[derive(Clone, Copy)]
 pub enum MaybeNumber {
     None,
     Some(u64),

@@ -1,5 +1,7 @@
 //! Reads a script on standard input and writes what each record is told and, after it, the whole host.
 
+#![tactic(auto)]
+
 fn main() {
     // the bytes of 40 records, and room for their text
     let mut input = [0u8; 800];

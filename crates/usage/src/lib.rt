@@ -1,5 +1,7 @@
 //! What a domain used up to a clock reading: the run times of its vCPUs, with the parts in flight, added up.
 
+#![tactic(auto)]
+
 ghost use Rattle.std.specs.Prelude.{◌≡◌, ◌+◌, ◌^◌, ◌<◌};
 ghost use Rattle.service.specs.Service.{value, held};
 ghost use Rattle.system.specs.Records.{runtime_until};
@@ -9,7 +11,7 @@ use service::Service;
 use system::{DomId, System, Ticks, VirtualCpu, runtime_until};
 
 // What is added up so far; a struct, since a call's result is not laid in a local that holds an array.
-#[derive(Drop)]
+#[derive(Clone, Copy)]
 struct Total {
     sum: [u32; 4],
 }

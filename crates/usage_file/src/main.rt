@@ -4,6 +4,8 @@
 //! What is refused stands on standard error alone: of a script, also a record that is no call, a last one that is cut off, and
 //! that no host is built. A program sets no status: `tools/usage_file` does, by that.
 
+#![tactic(auto)]
+
 ghost use Rattle.std.specs.Prelude.{◌≤◌};
 
 use records::RECORD;
@@ -13,7 +15,7 @@ use text::MaybeNumber;
 use usage_write::Written;
 
 // What is asked for.
-#[derive(Drop)]
+#[derive(Clone, Copy)]
 enum Request {
     Write { reading: u64 },
     Read,
@@ -116,7 +118,7 @@ fn asked() -> Request {
 // ---- write
 
 // A script under way, whether there may be more of it, and whether it makes no bill; then that was said.
-#[derive(Drop)]
+#[derive(Clone, Copy)]
 struct Turn {
     script: Script,
     more: bool,

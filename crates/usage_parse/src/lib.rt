@@ -1,5 +1,7 @@
 //! A usage file as a slice: whether it is accepted, a domain's body as a stretch of it, and a v_cPU's figures.
 
+#![tactic(auto)]
+
 ghost use Rattle.std.specs.Prelude.{◌≡◌, ◌+◌, ◌*◌, ◌^◌, ◌≤◌, ◌<◌, length};
 ghost use Rattle.big_endian.specs.Numbers.{number};
 ghost use Rattle.service.specs.Service.{value, held};

@@ -1,6 +1,8 @@
 //! A reader that is opened once on a usage file and then answers for each domain. The work is done by
 //! `usage_parse`, on the slice; the functions over `Reader` are thin.
 
+#![tactic(auto)]
+
 ghost use Rattle.std.specs.Prelude.{◌≡◌};
 ghost use Rattle.system.specs.Answers.{told};
 ghost use Rattle.usage_layout.specs.Reading.{count_of};
@@ -12,7 +14,7 @@ use usage_parse::{answer_at, body_at, domain_count};
 use usage_text::{FileText, file_text};
 
 /// A file, and its domain count; one above 16 stands for a file that is not accepted.
-#[derive(Drop)]
+#[derive(Clone, Copy)]
 pub struct Reader<'a> {
     file: &'a [u8],
     count: usize,

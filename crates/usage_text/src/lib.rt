@@ -1,5 +1,7 @@
 //! A usage file as text: a line for each vCPU, of one domain's body or of a file's domains.
 
+#![tactic(auto)]
+
 ghost use Rattle.std.specs.Prelude.{◌≡◌, ◌+◌, ◌≤◌, length};
 ghost use Rattle.io.specs.Counts.{IsPrefixLen};
 ghost use Rattle.text.specs.Places.{Placed};
@@ -10,14 +12,14 @@ use system::{MAX_DOMAINS, MAX_VCPUS, least};
 use usage_parse::{body_at, service_at, vcpu_count, weight_at};
 
 /// The text of a body, the first `length` bytes: eight lines of at most 103 bytes.
-#[derive(Drop)]
+#[derive(Clone, Copy)]
 pub struct BodyText {
     pub bytes: [u8; 824],
     pub length: usize,
 }
 
 /// The text of a file, the first `length` bytes: sixteen bodies. And the count of domains by which it was read.
-#[derive(Drop)]
+#[derive(Clone, Copy)]
 pub struct FileText {
     pub bytes: [u8; 13184],
     pub length: usize,

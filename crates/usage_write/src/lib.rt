@@ -1,5 +1,7 @@
 //! The usage file of a host at a reading: what ledger software reads.
 
+#![tactic(auto)]
+
 ghost use Rattle.std.specs.Prelude.{◌≡◌, ◌+◌, ◌≤◌, length};
 ghost use Rattle.std.proofs.lemmas.List.Edits.{sets};
 ghost use Rattle.big_endian.specs.Numbers.{bytes};
@@ -18,7 +20,7 @@ use usage_layout::MAGIC;
 pub const ROOM: usize = 2662;
 
 /// A file: the first `length` bytes, and zeros past them.
-#[derive(Drop)]
+#[derive(Clone, Copy)]
 pub struct Written {
     pub bytes: [u8; ROOM],
     pub length: usize,

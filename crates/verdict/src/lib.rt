@@ -1,5 +1,7 @@
 //! Verdicts on a system: the first breach of its invariants, in upstream's scan order.
 
+#![tactic(auto)]
+
 ghost use Rattle.std.specs.Prelude.{◌≡◌, true, ◌*◌};
 ghost use Rattle.system.specs.Shape.{within_sizes};
 ghost use Rattle.system.specs.Slots.{domains, pcpus};
@@ -11,7 +13,7 @@ ghost use Rattle.verdict.specs.OneViolation.{pcpu_index, vcpu_violation_at, hold
 use system::{Occupant, PhysicalCpu, RunState, System, VirtualCpu};
 
 /// What is wrong with a system, and where.
-#[derive(Drop)]
+#[derive(Clone, Copy)]
 pub enum Violation {
     None,
     /// A count is above its size.

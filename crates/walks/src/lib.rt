@@ -1,1 +1,3 @@
 //! No code: steps that proofs by hand share, along a function's MIR, for the crates above.
+
+#![tactic(auto)]
