@@ -25,7 +25,8 @@ fn put_text(out: &mut [u8], at: usize, text: &[u8])
     requires { at + length text.now ≤ length out.old }
     ensures { out.new ≡ put out.old at text.now }
 {
-    bytes::copy(text, &mut out[at..]);
+    let end = at + text.len();
+    out[at..end].copy_from_slice(text);
 }
 
 fn put_byte(out: &mut [u8], at: usize, b: u8) -> usize
