@@ -1,5 +1,5 @@
 -- Numbers in bytes by hand. Assumes nothing.
-use Rattle.std.specs.Prelude.{ℕ, ◌+◌, ◌-◌, ◌^◌, refl, List, [], ◌∷◌}
+use Rattle.std.specs.Prelude.{ℕ, ◌+◌, ◌^◌, refl, List, [], ◌∷◌}
 use Rattle.rows.specs.Rows.{Row, row, rows, AllDue}
 use Rattle.big_endian.specs.Numbers.{bytes, number}
 
