@@ -3,7 +3,7 @@ use Rattle.std.specs.Prelude.{◌^◌, ◌<◌}
 use Rattle.calls.specs.declared.Request.{Request}
 use Rattle.calls.specs.declared.Call.{Call}
 
--- clocks and masks of 64 bits, a p_cPU's id of 32
+-- clocks and masks of 64 bits, a pCPU's id of 32
 abbrev pub TypedRequest : Request → Type 0
 TypedRequest Request.Admit = Unit {0}
 TypedRequest (Request.Run p now) = (p < 2 ^ 32) × (now < 2 ^ 64)
@@ -13,7 +13,7 @@ TypedRequest Request.Wake = Unit {0}
 TypedRequest (Request.SetAffinity m) = m < 2 ^ 64
 TypedRequest (Request.Offline now) = now < 2 ^ 64
 
--- a domain's id of 16 bits, a v_cPU's and a weight of 32
+-- a domain's id of 16 bits, a vCPU's and a weight of 32
 abbrev pub Typed : Call → Type 0
 Typed (Call.Ask d v r) = (d < 2 ^ 16) × (v < 2 ^ 32) × TypedRequest r
 Typed (Call.OfflineAll d now) = (d < 2 ^ 16) × (now < 2 ^ 64)
