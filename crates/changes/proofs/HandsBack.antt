@@ -1,6 +1,5 @@
 -- A refusal hands both records back as they are. Assumes nothing.
-use mathlib.Core.Bool.{Bool, true, false, cond}
-use mathlib.Core.Path.{refl}
+use Rattle.std.proofs.Common.{Bool, true, false, cond, refl}
 use Rattle.system.specs.declared.VirtualCpu.{VirtualCpu}
 use Rattle.system.specs.declared.PhysicalCpu.{PhysicalCpu}
 use Rattle.system.specs.declared.Answer.{Answer}

@@ -1,3 +1,2 @@
 pub mod Laws
-mod Refusals
 mod HandsBack

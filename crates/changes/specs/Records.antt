@@ -1,4 +1,4 @@
--- A v_cPU's record made anew: with `with_mask` of system, the only ways in which one changes. The pCPU that it was last on changes
+-- A vCPU's record made anew: with `with_mask` of system, the only ways in which one changes. The pCPU that it was last on changes
 -- where it is dispatched and where it goes Offline, and nowhere else.
 use Rattle.std.specs.Prelude.{ℕ, ◌+◌, ◌-◌, ◌^◌, min}
 use Rattle.system.specs.declared.RunState.{RunState}

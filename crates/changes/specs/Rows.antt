@@ -25,7 +25,7 @@ abbrev held : Occupant → ℕ
 held Idle = 0
 held (Vcpu d v) = 1 + 10 * d + v
 
--- the answer; the v_cPU's state, run time, clock while Running, mask, and last pCPU; who holds the pCPU
+-- the answer; the vCPU's state, run time, clock while Running, mask, and last pCPU; who holds the pCPU
 abbrev seen : After → List ℕ
 seen a =
     told a.answer

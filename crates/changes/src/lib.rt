@@ -14,7 +14,7 @@ use system::{
     Answer, NO_PCPU, Occupant, Pcpu, PhysicalCpu, RunState, Ticks, VirtualCpu, elapsed, is_idle,
 };
 
-/// What a request does to its vCPU: it is refused, or the v_cPU's record is written anew, as it goes
+/// What a request does to its vCPU: it is refused, or the vCPU's record is written anew, as it goes
 /// onto a pCPU or leaves one too.
 #[derive(Clone, Copy)]
 pub enum Change {
@@ -24,7 +24,7 @@ pub enum Change {
     Leave { vcpu: VirtualCpu, pcpu: Pcpu },
 }
 
-// ---- a v_cPU's record made anew
+// ---- a vCPU's record made anew
 
 fn held_sum(a: u64, b: u64) -> u64
     ensures { result ≡ min (a + b) (2 ^ 64 - 1) }
@@ -33,6 +33,7 @@ fn held_sum(a: u64, b: u64) -> u64
 }
 
 /// The vCPU put onto a pCPU: its interval opens, and that pCPU is the one that it was last on.
+#[tactic(auto, unfolding(crate::specs::Records::dispatched))]
 pub fn dispatched(v: VirtualCpu, pcpu: Pcpu, now: Ticks) -> VirtualCpu
     ensures { result ≡ dispatched v pcpu now }
 {
@@ -46,6 +47,7 @@ pub fn dispatched(v: VirtualCpu, pcpu: Pcpu, now: Ticks) -> VirtualCpu
 }
 
 /// The vCPU taken off its pCPU: its interval closes.
+#[tactic(auto, unfolding(crate::specs::Records::left))]
 pub fn left(v: VirtualCpu, state: RunState, now: Ticks) -> VirtualCpu
     ensures { result ≡ left v state now }
 {
@@ -113,6 +115,7 @@ fn admitted(v: VirtualCpu) -> Change
 }
 
 // Who holds the pCPU is tested later, by `stored`: an off-mask dispatch has one reason, whoever is there.
+#[tactic(auto, unfolding(crate::specs::Records::dispatched))]
 fn ran(v: VirtualCpu, pcpu: Pcpu, now: Ticks) -> Change
     ensures { result ≡ ran v pcpu now v.state }
 {
@@ -221,7 +224,7 @@ pub fn changed(request: Request, v: VirtualCpu, pcpu_count: usize) -> Change
 
 // ---- what a change leaves
 
-/// What a change tells, and what stands after it at the v_cPU's slot and at the change's pCPU.
+/// What a change tells, and what stands after it at the vCPU's slot and at the change's pCPU.
 // The answer stands last: behind it the records would lie across words, and each read of them would wait.
 #[derive(Clone, Copy)]
 pub struct After {
