@@ -44,7 +44,7 @@ pub data ShareOf (s : System) (π : Scheduler) (now : ℕ) (r : Pick) (l : Share
 abbrev pub lifted_to : Share → ℕ → ℕ → List ℕ
 lifted_to f weight runtime = held (lift (value f.service) (max f.weight 1) weight runtime)
 
--- a v_cPU's account, renewed
+-- a vCPU's account, renewed
 abbrev pub renewed_at : VirtualCpu → Account → Share → Bool → Account
 renewed_at v a f boost =
     record {

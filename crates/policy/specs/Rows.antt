@@ -56,7 +56,7 @@ floors =
     ∷ rows (sets (pair (blocked 0) (waits 10)) (policy (pooled 256 0) (pooled 256 0))) (1 ∷ [])
     ∷ rows (sets (pair (offline 0) (waits 10)) (policy (pooled 256 0) (pooled 256 0))) (1 ∷ [])
     ∷ rows (sets (pair (blocked 0) (waits 0)) (policy (pooled 256 0) (away 256 0))) []
-    -- nor what stands at a slot that is no v_cPU's: 0/2 on a host of two vCPUs a domain
+    -- nor what stands at a slot that is no vCPU's: 0/2 on a host of two vCPUs a domain
     ∷ rows
     (sets (put_vcpu (pair (waits 20) (waits 10)) 2 (waits 0))
     (put_account (shaped 1 3 (policy (pooled 256 0) (pooled 256 0))) 0 2 (pooled 256 0)))
@@ -114,7 +114,7 @@ renewals =
     ∷ rows (snapshots (pair (waits 0) (offline 0)) (unlifting (away 256 0) (pooled 256 0))) (1 ∷ 0 ∷ [])
     -- the weight, 5, stays: at the floor, 50, its offset is 250
     ∷ rows (looks (accounted (pair (waits 50) (waits 0)) (policy (pooled 1 0) (away 5 0)) 100) 0 1) (5 ∷ 250 ∷ 1 ∷ [])
-    -- the account of a slot that is no v_cPU's stays
+    -- the account of a slot that is no vCPU's stays
     ∷ rows (looks (accounted (pair (waits 0) (waits 0)) (put_account (fresh_policy 1 3 10) 0 2 (pooled 5 7)) 100) 0 2) (5 ∷ 7 ∷ 1 ∷ [])
     -- and so does what is looked up outside the policy's shape
     ∷ rows (looks (accounted (pair (waits 9) (waits 0)) (shaped 1 1 (policy (pooled 1 0) (away 5 7))) 100) 0 1) (256 ∷ 0 ∷ 0 ∷ [])
@@ -138,7 +138,7 @@ outside =
 -- what `set_weight` and `set_wake_boost` leave
 abbrev settings : List Row
 settings =
-    -- a weight set, with offset 7 and in the snapshot; the other v_cPU's stays
+    -- a weight set, with offset 7 and in the snapshot; the other vCPU's stays
     rows (looks (set_weight (policy (pooled 3 9) (pooled 5 7)) 0 1 6) 0 1) (6 ∷ 7 ∷ 1 ∷ [])
     ∷ rows (looks (set_weight (policy (pooled 3 9) (pooled 5 7)) 0 1 6) 0 0) (3 ∷ 9 ∷ 1 ∷ [])
     -- 0 is stored as 1, and a stored 0 is read as 1

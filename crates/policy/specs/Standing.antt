@@ -1,4 +1,4 @@
--- A v_cPU's standing: its service and its weight, and who has had less for it.
+-- A vCPU's standing: its service and its weight, and who has had less for it.
 use Rattle.std.specs.Prelude.{ℕ, ◌+◌, ◌-◌, ◌/◌, ◌%◌, ◌^◌, min, Bool}
 use Rattle.service.specs.Service.{value, more_deserving}
 use Rattle.system.specs.declared.VirtualCpu.{VirtualCpu}

@@ -1,4 +1,4 @@
-//! The policy's records: each v_cPU's weight, the service added when it joined the pool, and the
+//! The policy's records: each vCPU's weight, the service added when it joined the pool, and the
 //! snapshot of the pool; how these are set and looked up, and how an accounting renews them.
 
 #![tactic(auto)]
@@ -15,7 +15,7 @@ ghost use Rattle.policy.specs.OneAccount.{undercuts, leader, lifted_to, renewed_
 use service::Service;
 use system::{Answer, DomId, RunState, System, Ticks, Vcpu, VirtualCpu, least, runtime_until};
 
-/// A v_cPU's proportional share.
+/// A vCPU's proportional share.
 pub type Weight = u32;
 
 /// The least weight that is used.
@@ -73,7 +73,7 @@ fn as_built(num_domains: usize, vcpus_per_domain: usize, quantum: Ticks) -> Sche
     }
 }
 
-// ---- one v_cPU's account
+// ---- one vCPU's account
 
 /// The account looked up for slot `i`, where `stored` is the one kept there.
 pub fn looked_up(domain_count: usize, vcpus_per_domain: usize, i: usize, stored: Account) -> Account
@@ -126,7 +126,7 @@ pub fn weighed(
     stored
 }
 
-/// A v_cPU's service: its run time up to the reading, and the offset.
+/// A vCPU's service: its run time up to the reading, and the offset.
 pub fn service_of(v: VirtualCpu, a: Account, now: Ticks) -> Service
     ensures { result ≡ held (service_of v a now) }
 {
@@ -198,7 +198,7 @@ fn leader(best: Share, v: VirtualCpu, a: Account, now: Ticks) -> Share
     best
 }
 
-// The offset that places a vCPU at the floor: what the floor's service is worth at the v_cPU's weight,
+// The offset that places a vCPU at the floor: what the floor's service is worth at the vCPU's weight,
 // less what it ran.
 fn lifted(f: Share, weight: Weight, runtime: Ticks) -> [u32; 4]
     ensures { result ≡ lifted_to f weight runtime }
@@ -208,7 +208,7 @@ fn lifted(f: Share, weight: Weight, runtime: Ticks) -> [u32; 4]
     service::difference(worth, service::from_u64(runtime))
 }
 
-// A v_cPU's account, renewed: one that joined the pool is placed at the floor, if there is one.
+// A vCPU's account, renewed: one that joined the pool is placed at the floor, if there is one.
 fn renewed(v: VirtualCpu, a: Account, f: Share, wake_boost: bool) -> Account
     ensures { result ≡ renewed_at v a f wake_boost }
 {
