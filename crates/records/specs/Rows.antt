@@ -1,10 +1,10 @@
 -- What records are for, kind by kind, as the requirements list them, and the bytes of one. Assumes nothing.
-use Rattle.std.specs.Prelude.{ℕ, ◌^◌, true, false, ◌≡◌, refl, List, [], ◌∷◌, ◌++◌, map, take, replicate}
+use Rattle.std.specs.Prelude.{ℕ, ◌^◌, true, false, refl, List, [], ◌∷◌, ◌++◌, take, replicate}
 use Rattle.system.specs.declared.Answer.TheVariants.{TooLarge, BadScript}
 use Rattle.calls.specs.declared.Call.{Call}
 use Rattle.calls.specs.declared.Request.{Request}
 use Rattle.records.specs.declared.Plan.{Plan}
-use Rattle.big_endian.specs.Numbers.{bytes, number}
+use Rattle.big_endian.specs.Numbers.{bytes}
 use Rattle.rows.specs.Rows.{Row, rows, AllDue}
 use Rattle.records.specs.Bytes.{bytes_of, put_record}
 use Rattle.records.specs.Records.{plan_of}
@@ -81,10 +81,6 @@ table =
     ∷ row (plan_of true (take 19 (distinct 1))) (Plan.Refuse BadScript)
     ∷ row (plan_of true (distinct 1 ++ distinct 2)) (Plan.Call (Call.Ask dom vcpu Request.Admit))
     ∷ []
-
-pub table-due : map (λ (r : PlanRow). r.given) table ≡ map (λ (r : PlanRow). r.due) table
-unfolding bytes number plan_of
-table-due = refl
 
 -- ---- written
 
