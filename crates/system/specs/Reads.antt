@@ -81,7 +81,7 @@ runtime_in (MaybeVcpu.Some v) = MaybeU64.Some v.runtime
 abbrev pub runtime_of : System → ℕ → ℕ → MaybeU64
 runtime_of s d v = runtime_in (vcpu_of s d v)
 
--- the clock of a Running v_cPU's dispatch
+-- the clock of a Running vCPU's dispatch
 abbrev pub since : RunState → ℕ → MaybeU64
 since st t = while_running st (λ p. MaybeU64.Some t) MaybeU64.None
 

@@ -1,4 +1,4 @@
--- One v_cPU's record, and how long it has run. Assumes nothing.
+-- One vCPU's record, and how long it has run. Assumes nothing.
 use Rattle.std.specs.Prelude.{ℕ, ◌+◌, ◌-◌, ◌^◌, ◌≤◌, ◌<◌}
 use Rattle.std.proofs.Common.{arith}
 use Rattle.system.specs.declared.RunState.{RunState}

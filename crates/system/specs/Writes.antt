@@ -1,4 +1,4 @@
--- What a write of one vCPU record, and of one p_cPU's occupant, leaves. Assumes nothing.
+-- What a write of one vCPU record, and of one pCPU's occupant, leaves. Assumes nothing.
 use Rattle.std.specs.Prelude.{ℕ, ◌<◌, min, ◌≡◌, refl, ◌≢◌, length, set}
 use Rattle.std.proofs.Common.{ap, ◌∙◌, arith, length-set, get_or-set_same, get_or-set_other}
 use Rattle.system.specs.declared.VirtualCpu.{VirtualCpu}

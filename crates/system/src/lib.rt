@@ -208,7 +208,7 @@ pub fn is_idle(o: Occupant) -> bool
     }
 }
 
-/// How long a v_cPU's present interval has lasted; 0 where the clock ran back.
+/// How long a vCPU's present interval has lasted; 0 where the clock ran back.
 pub fn elapsed(v: VirtualCpu, now: Ticks) -> u64
     ensures { result ≡ elapsed v now }
 {
@@ -216,7 +216,8 @@ pub fn elapsed(v: VirtualCpu, now: Ticks) -> u64
     if since < now { now - since } else { 0 }
 }
 
-/// The part of a v_cPU's service that is in flight: that interval, while it is Running.
+/// The part of a vCPU's service that is in flight: that interval, while it is Running.
+#[tactic(auto, unfolding(crate::specs::Records::in_flight))]
 pub fn in_flight(v: VirtualCpu, now: Ticks) -> u64
     ensures { result ≡ in_flight v now }
 {
@@ -229,7 +230,7 @@ pub fn in_flight(v: VirtualCpu, now: Ticks) -> u64
     }
 }
 
-/// A v_cPU's run time up to a reading: over closed intervals, and the part in flight. It is exact: of two
+/// A vCPU's run time up to a reading: over closed intervals, and the part in flight. It is exact: of two
 /// numbers of 64 bits nothing is held.
 pub fn runtime_until(v: VirtualCpu, now: Ticks) -> Service
     ensures value { result ≡ held (runtime_until v now) }
@@ -241,6 +242,7 @@ pub fn runtime_until(v: VirtualCpu, now: Ticks) -> Service
 }
 
 // A system of that shape: all vCPUs Offline with every pCPU admitted, all pCPUs idle.
+#[tactic(auto, unfolding(crate::specs::Shape::fresh))]
 fn as_built(num_domains: usize, vcpus_per_domain: usize, num_pcpus: usize) -> System
     ensures { result ≡ fresh num_domains vcpus_per_domain num_pcpus }
 {
@@ -299,7 +301,8 @@ impl System {
         least(self.pcpu_count, MAX_PCPUS)
     }
 
-    /// A v_cPU's record, if the ids are in range.
+    /// A vCPU's record, if the ids are in range.
+    #[tactic(auto, unfolding(crate::specs::Reads::vcpu_of, crate::specs::Reads::vcpu_at))]
     pub fn vcpu(self, dom: DomId, vcpu: Vcpu) -> MaybeVcpu
         ensures { result ≡ vcpu_of self dom vcpu }
     {
@@ -314,7 +317,7 @@ impl System {
         MaybeVcpu::None
     }
 
-    /// A v_cPU's run state, if the ids are in range.
+    /// A vCPU's run state, if the ids are in range.
     pub fn state_of(self, dom: DomId, vcpu: Vcpu) -> MaybeState
         ensures { result ≡ state_of self dom vcpu }
     {
@@ -335,7 +338,7 @@ impl System {
         running(self.state_of(dom, vcpu))
     }
 
-    /// A v_cPU's run time over closed intervals, if the ids are in range.
+    /// A vCPU's run time over closed intervals, if the ids are in range.
     pub fn runtime(self, dom: DomId, vcpu: Vcpu) -> MaybeU64
         ensures { result ≡ runtime_of self dom vcpu }
     {
@@ -346,7 +349,7 @@ impl System {
         }
     }
 
-    /// When a v_cPU's present interval began, if it is Running.
+    /// When a vCPU's present interval began, if it is Running.
     pub fn on_cpu_since(self, dom: DomId, vcpu: Vcpu) -> MaybeU64
         ensures { result ≡ on_cpu_since self dom vcpu }
     {
@@ -361,6 +364,7 @@ impl System {
     }
 
     /// Who holds a pCPU; nobody holds one out of range.
+    #[tactic(auto, unfolding(crate::specs::Reads::occupant_at))]
     pub fn occupant(self, pcpu: Pcpu) -> Occupant
         ensures { result ≡ occupant_of self pcpu }
     {
@@ -373,7 +377,7 @@ impl System {
         }
     }
 
-    /// A v_cPU's mask, if the ids are in range.
+    /// A vCPU's mask, if the ids are in range.
     pub fn affinity_of(self, dom: DomId, vcpu: Vcpu) -> MaybeU64
         ensures { result ≡ affinity_of self dom vcpu }
     {
@@ -384,7 +388,7 @@ impl System {
         }
     }
 
-    /// Whether a v_cPU's mask admits a pCPU; never for ids out of range.
+    /// Whether a vCPU's mask admits a pCPU; never for ids out of range.
     pub fn affinity_permits(self, dom: DomId, vcpu: Vcpu, pcpu: Pcpu) -> bool
         ensures { result ≡ affinity_permits self dom vcpu pcpu }
     {
