@@ -31,7 +31,7 @@ answer_line number answer moves = decimal number ++ field answer ++ field moves 
 abbrev pub answer_room : ℕ
 answer_room = 63
 
--- some numbers, as a v_cPU's are written
+-- some numbers, as a vCPU's are written
 unfoldable pub numbers_line : List ℕ → List ℕ
 numbers_line ns = fields ns ++ (10 ∷ [])
 

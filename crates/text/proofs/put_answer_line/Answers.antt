@@ -1,0 +1,29 @@
+-- `text::put_answer_line` meets its contract. Assumes nothing.
+use Rattle.std.proofs.Common.{◌≤◌, length, arith}
+use Rattle.text.specs.Lines.{answer_line, answer_room}
+use Rattle.text.specs.Places.{placed-then, crowded, put-within}
+use Rattle.text.specs.AnswerPlaces.{answer_put, answer_end}
+use Rattle.text.proofs.put_answer_line.Goals as goal
+
+pub returns-then-out-lt-ANSWER_ROOM : goal.returns-then-out-lt-ANSWER_ROOM
+unfolding answer_put answer_end
+returns-then-out-lt-ANSWER_ROOM c =
+    let a = c.args in
+    let none = crowded answer_room a.out.now (answer_line a.number a.answer a.moves) a.at (omega arith) in
+    record { out_after = none.0; value = none.1 }
+
+pub returns-then-at-out : goal.returns-then-at-out
+unfolding answer_put answer_end
+returns-then-at-out c =
+    let a = c.args in
+    let none = crowded answer_room a.out.now (answer_line a.number a.answer a.moves) a.at (omega arith) in
+    record { out_after = none.0; value = none.1 }
+
+pub returns : goal.returns
+unfolding answer_line answer_put answer_end
+returns c =
+    let inside : c.args.at ≤ length c.args.out.now = omega arith in
+    let numbered = placed-then inside c.put_number-a.ensures.placed c.put_field-b.ensures.placed in
+    let told = placed-then inside (placed-then inside numbered c.put_field-c.ensures.placed) c.put_byte.ensures in
+    let there = put-within answer_room (omega arith) told in
+    record { out_after = there.0; value = there.1 }
