@@ -11,17 +11,7 @@ use lib.Seq.{ext_get_or}
 use Rattle.big_endian.specs.Numbers.{number, AllBytes}
 use Rattle.big_endian.specs.Laws.{number-below, number_determines}
 use Rattle.usage_layout.specs.Layout.{usge, Within, start, file}
-use Rattle.usage_layout.specs.Reading.{
-  opens,
-  domains_in,
-  vcpus_in,
-  weight_in,
-  service_in,
-  body_in,
-  vcpus_each,
-  accepted,
-  figures_in,
-}
+use Rattle.usage_layout.specs.Reading.{opens, domains_in, vcpus_in, weight_in, service_in, body_in, vcpus_each, figures_in}
 use Rattle.usage_layout.specs.Files.{Says, Alike, NoTwoAlike, NothingElse}
 use Rattle.usage_layout.proofs.Each.{by_parts, by_two}
 use Rattle.usage_layout.proofs.Parts.{file-bytes}

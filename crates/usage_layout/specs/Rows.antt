@@ -1,5 +1,5 @@
 -- Usage files byte by byte, worked out by hand from the layout, what they say, and bytes that are no file. Assumes nothing.
-use Rattle.std.specs.Prelude.{ℕ, ◌+◌, ◌*◌, ◌-◌, ◌^◌, refl, List, [], ◌∷◌, ◌++◌, map, length, get_or, set, take, replicate}
+use Rattle.std.specs.Prelude.{ℕ, ◌+◌, ◌*◌, ◌^◌, refl, List, [], ◌∷◌, ◌++◌, map, length, get_or, set, take, replicate}
 use Rattle.rows.specs.Rows.{Row, row, rows, test, AllDue}
 use Rattle.big_endian.specs.Numbers.{bytes, number}
 use Rattle.usage_layout.specs.Layout.{Figures, each, file, padded}
