@@ -1,4 +1,4 @@
--- A v_cPU's weight and service in a body are those at its place in the file. Assumes nothing.
+-- A vCPU's weight and service in a body are those at its place in the file. Assumes nothing.
 use mathlib.Core.Bool.{Bool, true, false, cond}
 use mathlib.Core.List.{List, []}
 use mathlib.Core.Path.{◌≡◌, refl, ◌∙◌, ap}

@@ -1,5 +1,4 @@
 pub mod Laws
 mod Opened
 mod All
-mod Sizes
 mod FileFigures

@@ -13,6 +13,6 @@ ToldByTheCount = (s : List ℕ) (d : ℕ) → answer_at (count_of s) d ≡ answe
 abbrev pub GivenByTheCount : Type 0
 GivenByTheCount = (s : List ℕ) (d : ℕ) → stretch_at s (count_of s) d ≡ stretch_of s d
 
--- `place_of`: in memory, that stretch of the slice itself
+-- `place-of`: in memory, that stretch of the slice itself
 abbrev pub PlacedByTheCount : Type 0
 PlacedByTheCount = (s : Bor (List ℕ)) (d : ℕ) → place_at s (count_of s.now) d ≡ place_of s d

@@ -1,4 +1,4 @@
--- What is told of a domain of a usage file, its body as a stretch of the file, and a v_cPU's figures in a body.
+-- What is told of a domain of a usage file, its body as a stretch of the file, and a vCPU's figures in a body.
 use Rattle.std.specs.Prelude.{Bool, cond, ◌&&◌, List, [], ℕ, ◌+◌, ◌*◌, ◌/◌, leb, ltb, length}
 use Rattle.std.specs.Borrow.{Bor}
 use Rattle.system.specs.declared.Answer.{Answer}

@@ -1,4 +1,4 @@
-//! A usage file as a slice: whether it is accepted, a domain's body as a stretch of it, and a v_cPU's figures.
+//! A usage file as a slice: whether it is accepted, a domain's body as a stretch of it, and a vCPU's figures.
 
 #![tactic(auto)]
 
@@ -22,7 +22,7 @@ pub const REFUSED: usize = 17;
 fn half_at(s: &[u8], at: usize) -> usize
     requires { at + 2 ≤ length s.now }
     ensures value { result ≡ number s.now at 2 }
-    ensures upper_bound { result < 2 ^ 16 }
+    ensures bound { result < 2 ^ 16 }
 {
     half(s[at], s[at + 1]) as usize
 }
@@ -30,7 +30,7 @@ fn half_at(s: &[u8], at: usize) -> usize
 fn word_at(s: &[u8], at: usize) -> usize
     requires { at + 4 ≤ length s.now }
     ensures value { result ≡ number s.now at 4 }
-    ensures upper_bound { result < 2 ^ 32 }
+    ensures bound { result < 2 ^ 32 }
 {
     word(s[at], s[at + 1], s[at + 2], s[at + 3]) as usize
 }
@@ -55,8 +55,8 @@ fn opens(s: &[u8]) -> bool
 
 // Whether the line of domain d names the place that is due, and k vCPUs.
 fn line_right(s: &[u8], n: usize, k: usize, d: usize) -> bool
-    requires d_in_bounds { 12 + d * 6 ≤ length s.now }
-    requires d_bound { (d < 16) × (n ≤ 16) × (k ≤ 8) }
+    requires line_within { 12 + d * 6 ≤ length s.now }
+    requires few { (d < 16) × (n ≤ 16) × (k ≤ 8) }
     ensures { result ≡ line_right s.now n k d }
 {
     if word_at(s, 6 + d * 6) != 6 + n * 6 + d * (k * 20) {
@@ -67,8 +67,8 @@ fn line_right(s: &[u8], n: usize, k: usize, d: usize) -> bool
 
 // Whether the line of each domain does.
 fn lines_right(s: &[u8], n: usize, k: usize) -> bool
-    requires n_in_bounds { 6 + n * 6 ≤ length s.now }
-    requires n_bound { (n ≤ 16) × (k ≤ 8) }
+    requires lines_within { 6 + n * 6 ≤ length s.now }
+    requires few { (n ≤ 16) × (k ≤ 8) }
     ensures { result ≡ all n (line_right s.now n k) }
 {
     let mut d: usize = 0;
@@ -84,8 +84,8 @@ fn lines_right(s: &[u8], n: usize, k: usize) -> bool
 
 // Whether each of m vCPUs, from byte `from` on, has a weight of at least 1.
 fn weighed(s: &[u8], from: usize, m: usize) -> bool
-    requires m_in_bounds { from + m * 20 ≤ length s.now }
-    requires m_bound { m ≤ 128 }
+    requires vcpus_within { from + m * 20 ≤ length s.now }
+    requires few { m ≤ 128 }
     ensures { result ≡ weighed s.now from m }
 {
     let mut i: usize = 0;
@@ -191,7 +191,7 @@ pub fn vcpu_count(body: &[u8]) -> usize
     body.len() / 20
 }
 
-/// A v_cPU's weight; 0 for one that the body has not.
+/// A vCPU's weight; 0 for one that the body has not.
 pub fn weight_at(body: &[u8], vcpu: usize) -> u32
     ensures { result ≡ weight_at body.now vcpu }
 {
@@ -201,7 +201,7 @@ pub fn weight_at(body: &[u8], vcpu: usize) -> u32
     word_at(body, vcpu * 20) as u32
 }
 
-/// A v_cPU's service; 0 for one that the body has not.
+/// A vCPU's service; 0 for one that the body has not.
 pub fn service_at(body: &[u8], vcpu: usize) -> Service
     ensures value { result ≡ held (service_at body.now vcpu) }
     ensures result_value { value result ≡ service_at body.now vcpu }

@@ -1,19 +1,12 @@
 -- `usage_parse::service_at` meets its contract: 16 bytes are four words, the most significant first. Assumes nothing.
-use Prim.Native.Nat.{ℕ, zero, suc, ◌+◌, ◌*◌, ◌^◌, ◌<◌}
-use mathlib.Core.List.{List, [], ◌∷◌}
-use mathlib.Core.Path.{◌≡◌, refl, sym, ◌∙◌, ap, ap₂}
-use native.Mathlib.Omega.{arith}
-use borrow.Author.Rules.{rules}
-use borrow.Author.Tests.{lt-ltb, le-ltb}
-use lib.Dec.{lit<}
-use lib.ListN.{length, get_or}
+use Rattle.std.proofs.Common.{ℕ, zero, suc, ◌+◌, ◌*◌, ◌^◌, ◌<◌, List, [], ◌∷◌, ◌≡◌, refl, sym, ◌∙◌, ap, ap₂, arith}
+use Rattle.std.proofs.Common.{lt-ltb, le-ltb, lit<, length, get_or}
 use Rattle.big_endian.specs.Numbers.{number}
 use Rattle.big_endian.specs.Laws.{number-add}
 use Rattle.service.specs.Service.{value, limbs, held}
 use Rattle.service.specs.Laws.{below-limit, value-below}
 use Rattle.usage_parse.specs.Domains.{service_at}
-use Rattle.usage_parse.proofs.service_at.Statement.{statement}
-use Rattle.usage_parse.proofs.service_at.Tie as tie
+use Rattle.usage_parse.proofs.service_at.Goals as goal
 
 four-words : (bs : List ℕ) (at : ℕ)
     → number bs at 16
@@ -44,42 +37,22 @@ words-held a b c d u v w x =
     small (suc (suc (suc zero))) = x
     small (suc (suc (suc (suc i)))) = lit< tt
 
-no_vcpu_lem : tie.Need-returns
-unfolding value limbs held
-no_vcpu_lem c = simp (le-ltb _ _ c.if1.true) (refl, refl)
+pub returns-then-body-vcpu-clause-value : goal.returns-then-body-vcpu-clause-value
+unfolding limbs held
+returns-then-body-vcpu-clause-value c = simp (le-ltb _ _ c.if-body-vcpu.true)
 
-its_service : tie.Need-returns-2
+pub returns-then-body-vcpu-clause-result_value : goal.returns-then-body-vcpu-clause-result_value
 unfolding value
-its_service c =
-    let third = c.before in
-    let second = third.before in
-    let first = second.before in
-    let a = first.before.before.before in
-    let all = four-words a.args.body.now (a.args.vcpu * 20 + 4) in
-    let worth : value (first.word_at.result ∷ second.word-at2.result ∷ third.word-at3.result ∷ c.word-at4.result ∷ [])
-    ≡ service_at a.args.body.now a.args.vcpu =
-    simp (lt-ltb _ _ first.before.if1.false)
-    (omega (arith, all, first.word_at.ensures.0, second.word-at2.ensures.0, third.word-at3.ensures.0, c.word-at4.ensures.0)) in (
-      words-held _ _ _ _ first.word_at.ensures.1 second.word-at2.ensures.1 third.word-at3.ensures.1 c.word-at4.ensures.1 ∙ ap held worth,
-      worth,
-    )
+returns-then-body-vcpu-clause-result_value c = simp (le-ltb _ _ c.if-body-vcpu.true)
 
-pub service_at_spec : {M : Type 1} → statement M
-service_at_spec =
-    tie.close
-    (tie.spec
-    no_vcpu_lem
-    (λ c. search rules)
-    (λ c. search rules)
-    (λ c. search rules)
-    (λ c κs. search rules)
-    (λ c. search rules)
-    (λ c. search rules)
-    (λ c κs. search rules)
-    (λ c. search rules)
-    (λ c. search rules)
-    (λ c κs. search rules)
-    (λ c. search rules)
-    (λ c κs. search rules)
-    (λ c. search rules)
-    its_service)
+pub returns-clause-result_value : goal.returns-clause-result_value
+unfolding value
+returns-clause-result_value c =
+    simp (lt-ltb _ _ c.if-body-vcpu.false)
+    (omega (arith, four-words c.args.body.now (c.args.vcpu * 20 + 4), c.word_at.ensures.value, c.word_at-2.ensures.value, c.word_at-3.ensures.value, c.word_at-4.ensures.value))
+
+pub returns-clause-value : goal.returns-clause-value
+returns-clause-value c =
+    let worth : value (c.word_at.result ∷ c.word_at-2.result ∷ c.word_at-3.result ∷ c.word_at-4.result ∷ []) ≡ service_at c.args.body.now c.args.vcpu =
+    returns-clause-result_value c in
+    words-held _ _ _ _ c.word_at.ensures.bound c.word_at-2.ensures.bound c.word_at-3.ensures.bound c.word_at-4.ensures.bound ∙ ap held worth
