@@ -1,13 +1,6 @@
 -- Counting by pairing off: what is mapped into a set, no two to one place, is no more than the set, and less where a place is missed.
 -- Assumes nothing.
-use Prim.Native.Nat.{ℕ, zero, suc, ◌+◌, ◌≤◌, ◌<◌, zero-le}
-use mathlib.Core.Bool.{Bool, true, false, cond}
-use mathlib.Core.Path.{◌≡◌, refl, ◌∙◌, ap}
-use mathlib.Core.Logic.{⊎_elim}
-use native.Mathlib.Nat.{eq-or-lt_of_le}
-use native.Mathlib.Omega.{arith}
-use lib.Dec.{eqb}
-use borrow.Author.Tests.{eq-eqb, ne_eqb}
+use Rattle.std.proofs.Common.{ℕ, zero, suc, ◌+◌, ◌≤◌, ◌<◌, zero-le, Bool, true, false, cond, ◌≡◌, refl, ◌∙◌, ap, ⊎_elim, eq-or-lt_of_le, arith, eqb, eq-eqb, ne_eqb}
 use Rattle.system.specs.Reads.{count, count_same}
 
 -- `to` maps the numbers below n that have f to numbers below m that have g, no two to one

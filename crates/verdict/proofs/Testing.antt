@@ -1,11 +1,5 @@
 -- What a test of soundness keeps, slot by slot, and its verdict. Assumes nothing.
-use Prim.Native.Nat.{ℕ, ◌+◌, ◌/◌, ◌%◌, ◌≤◌, zero-le}
-use mathlib.Core.Bool.{Bool, true, false}
-use mathlib.Core.Path.{◌≡◌, refl, sym, ◌∙◌, ap}
-use native.Mathlib.Nat.{add-zero}
-use native.Mathlib.Numerals.{add-one}
-use native.Mathlib.Omega.{arith}
-use borrow.Author.Tests.{eq-eqb, ne_eqb}
+use Rattle.std.proofs.Common.{ℕ, ◌+◌, ◌/◌, ◌%◌, ◌≤◌, zero-le, Bool, true, false, ◌≡◌, refl, sym, ◌∙◌, ap, add-zero, add-one, arith, eq-eqb, ne_eqb}
 use Rattle.system.specs.declared.System.{System}
 use Rattle.system.specs.Shape.{within_sizes}
 use Rattle.system.specs.Reads.{vcpu_at, occupant_at, count, busy_pcpus}

@@ -1,12 +1,6 @@
 -- One turn of a scan, and that a record read at an index that is always in the table serves as the record named. Assumes nothing.
-use Prim.Native.Nat.{ℕ, zero, suc, ◌+◌, ◌*◌, ◌/◌, ◌%◌, ◌≤◌, ◌<◌}
-use mathlib.Core.Bool.{Bool, true, false, false≢true}
-use mathlib.Core.Path.{◌≡◌, refl, sym, ◌∙◌, ap}
-use mathlib.Core.Logic.{⊎_elim}
-use native.Mathlib.Nat.{eq-or-lt_of_le}
-use native.Mathlib.Omega.{arith}
-use lib.Dec.{ltb}
-use borrow.Author.Tests.{ltb-true, lt-ltb, le-ltb}
+use Rattle.std.proofs.Common.{ℕ, zero, suc, ◌+◌, ◌*◌, ◌/◌, ◌%◌, ◌≤◌, ◌<◌, Bool, true, false, ◌≡◌, refl, sym, ◌∙◌, ap, ⊎_elim, eq-or-lt_of_le, arith, ltb, ltb-true, lt-ltb, le-ltb}
+use Rattle.std.proofs.lemmas.Bool.{false≢true}
 use Rattle.system.specs.declared.RunState.{RunState}
 use Rattle.system.specs.declared.RunState.TheVariants.{Offline, Runnable, Running, Blocked}
 use Rattle.system.specs.declared.Occupant.{Occupant}
@@ -57,7 +51,7 @@ pub holder-slot-below : (o : Occupant) → holder_slot o < 128
 holder-slot-below Idle = omega arith
 holder-slot-below (Vcpu d v) = omega arith
 
--- the index of a v_cPU's pCPU is that of the one it runs on, if that exists
+-- the index of a vCPU's pCPU is that of the one it runs on, if that exists
 stands_at : (s : System) (d v mask : ℕ) (st : RunState)
     → vcpu_violation_at (pcpus s) (occupant_at s (pcpu_index st)) d v mask st ≡ vcpu_violation s d v mask st
 stands_at s d v mask Offline = refl
@@ -72,7 +66,7 @@ stands_at s d v mask (Running p) = go (ltb p (pcpus s)) refl
     go false e = rw e
 stands_at s d v mask Blocked = refl
 
--- the vCPU of a p_cPU's holder slot is its holder, if that exists
+-- the vCPU of a pCPU's holder slot is its holder, if that exists
 holding : (s : System) (p : ℕ) (o : Occupant)
     → holder_violation_at (domains s) (vcpus s) (vcpu_at s (holder_slot o)).state p o ≡ holder_violation s p o
 holding s p Idle = refl

@@ -94,7 +94,7 @@ verdicts =
     ∷ rows (found (names 2 0 0 host)) (0 ∷ [])
     ∷ []
 
--- what is said of one vCPU by its record and its p_cPU's
+-- what is said of one vCPU by its record and its pCPU's
 abbrev pub elements : List Row
 elements =
     -- the index of its pCPU; past the table one of it

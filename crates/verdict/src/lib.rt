@@ -20,7 +20,7 @@ pub enum Violation {
     Oversize,
     /// A Running vCPU names a pCPU that does not exist.
     RunningGhostPcpu { dom: usize, vcpu: usize },
-    /// A Running v_cPU's pCPU does not name it back.
+    /// A Running vCPU's pCPU does not name it back.
     OccupancyBroken { dom: usize, vcpu: usize },
     /// A Running vCPU is on a pCPU outside its mask.
     RunningOffAffinity { dom: usize, vcpu: usize },
@@ -75,7 +75,7 @@ fn names_vcpu(c: PhysicalCpu, dom: usize, vcpu: usize) -> bool
     }
 }
 
-// What is wrong with vCPU dom/vcpu, where c stands at its p_cPU's index.
+// What is wrong with vCPU dom/vcpu, where c stands at its pCPU's index.
 fn vcpu_violation(
     v: VirtualCpu,
     c: PhysicalCpu,
@@ -228,7 +228,7 @@ pub fn runs_within(v: VirtualCpu, vcpu: usize, vcpus_per_domain: usize) -> bool
     }
 }
 
-/// Whether vCPU dom/vcpu may stand where it does, where `c` stands at its p_cPU's index.
+/// Whether vCPU dom/vcpu may stand where it does, where `c` stands at its pCPU's index.
 pub fn is_backed(v: VirtualCpu, c: PhysicalCpu, pcpu_count: usize, dom: usize, vcpu: usize) -> bool
     ensures { result ≡ is_none (vcpu_violation_at pcpu_count c.occupant dom vcpu v.affinity v.state) }
 {
