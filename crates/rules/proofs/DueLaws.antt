@@ -37,7 +37,7 @@ module _ {s : System} (ρ : Rule) (now : ℕ) (T : Tables s) where
       rw ((run-wrote s now i p T c).here, lt-leb ρ.slice (now - now) (omega arith))
       (and-false (present (enacted s now (Run i p)).system i))
 
-  -- being past its slice is a matter of the v_cPU's own record
+  -- being past its slice is a matter of the vCPU's own record
   wrote-same : {s' : System} {i p : ℕ} {v : VirtualCpu} {o : Occupant} → Wrote s s' i v p o → (j : ℕ) → j ≢ i
       → due s' ρ now j ≡ due s ρ now j
   unfolding due standings

@@ -11,7 +11,7 @@ use Rattle.system.specs.declared.RunState.TheVariants.{Offline, Runnable, Runnin
 use Rattle.system.specs.declared.System.{System}
 use Rattle.system.specs.Records.{elapsed}
 use Rattle.system.specs.Reads.{vcpu_at, is_idle, is-idle, state_at, last_at, admits}
-use Rattle.system.specs.Slots.{pcpus, Present, slots, present, is-present, present-is}
+use Rattle.system.specs.Slots.{pcpus, Present, slots, is-present, present-is}
 use Rattle.system.specs.States.{onto, is_runnable, is-runnable}
 use Rattle.sched.specs.CanRun.{CanRun}
 use Rattle.moves.specs.declared.Choice.TheVariants.{Run, Preempt, Rest}

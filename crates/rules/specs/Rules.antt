@@ -11,7 +11,7 @@ pub record Rule : Type 0 where
   pub slice : ℕ
   -- by system, clock and slot: it is not dispatched, nor is anybody preempted for it
   pub barred : System → ℕ → ℕ → Bool
-  -- By a v_cPU's record, clock and slot: what it has had. It may ignore the record, as a rank does that no move of an advance changes:
+  -- By a vCPU's record, clock and slot: what it has had. It may ignore the record, as a rank does that no move of an advance changes:
   -- then it is the rank that the advance began with. Nothing is assumed of it but what `Steady` says.
   pub service : VirtualCpu → ℕ → ℕ → ℕ
   -- by slot
