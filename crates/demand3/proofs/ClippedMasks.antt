@@ -145,9 +145,9 @@ module _ (k : Shape) where
   moves-clip : (b : Book) (now : ℕ) (cs : List Choice) → Clips b → EntryClips (moved_all b now cs)
   unfolding moved_all
   moves-clip b now [] C = record { clips = C }
-  moves-clip b now (Run i p ∷ cs) C = record { clips = (moves-clip _ now cs (noted-clips i (opened (b i) p now) C (C.mask i))).clips }
+  moves-clip b now (Run i p ∷ cs) C = record { clips = (moves-clip (noted b i (opened (b i) p now)) now cs (noted-clips i (opened (b i) p now) C (C.mask i))).clips }
   moves-clip b now (Preempt i p ∷ cs) C =
-      record { clips = (moves-clip _ now cs (noted-clips i (closed (b i) Runnable now) C (C.mask i))).clips }
+      record { clips = (moves-clip (noted b i (closed (b i) Runnable now)) now cs (noted-clips i (closed (b i) Runnable now) C (C.mask i))).clips }
   moves-clip b now (Rest ∷ cs) C = record { clips = (moves-clip b now cs C).clips }
 
   enter-clips : (b : Book) (c : Call) (ms : List Choice) → Clips b → EntryClips (enter k b c ms)

@@ -89,7 +89,7 @@ module _ {M : Machine} (L : Lawful M) where
       by_mechanism K (L.ask h d v q) (requested-keeps _ T.sound T.tables d v q) (requested-alike T d v q)
   step-goes {h = h} (Call.OfflineAll d now) K =
       let T = K.in_step in
-      by_mechanism K (L.offline_all h d now) (offline-all-keeps _ T.sound T.tables d now) (offline-all-alike T d now)
+      by_mechanism K (L.offline-all h d now) (offline-all-keeps _ T.sound T.tables d now) (offline-all-alike T d now)
   step-goes {h = h} (Call.SetWeight d v w) K =
       by_mechanism K (L.weight h d v w) (unchanged K.in_step.sound) (record { number = refl; lines = K.in_step.lines })
   step-goes {h = h} (Call.SetWakeBoost on) K =

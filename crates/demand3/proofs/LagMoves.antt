@@ -73,7 +73,7 @@ module _ (π : Scheduler) (P : Plain π) (lim : ℕ) where
       off-lag w (weight_pos π) lim now k.0 fit L h on (preempt-wrote s now i p tb S h on) k.1.present k.1.ready
       (beats-before l k.0 i k.1.wins)
 
-  pub trace-lag : {s t : System} {cs : List Choice} {now : ℕ} → Trace (rule_of π) now s cs t → now < 2 ^ 64
+  pub trace-lag : {now : ℕ} {s t : System} {cs : List Choice} → Trace (rule_of π) now s cs t → now < 2 ^ 64
       → ((j : ℕ) → runtime_at s j < 2 ^ 64) → Tables s → Sound s → Lag w lim s now → Lag w lim t now
   trace-lag rest fit h tb S L = L
   trace-lag {now = now} (run {s} {i = i} {p = p} e c r) fit h tb S L =

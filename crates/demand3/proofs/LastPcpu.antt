@@ -92,7 +92,7 @@ module _ {M : Machine} (L : Lawful M) where
       → Follows (M.system h) (M.system (M.after h c)) (entry_of M k h b c)
   unfolding enter
   step_follows {h = h} (Call.Ask d v q) K Y = by_mechanism (L.ask h d v q) (requested-follows K.in_step Y d v q)
-  step_follows {h = h} (Call.OfflineAll d now) K Y = by_mechanism (L.offline_all h d now) (offline-all-follows K.in_step Y d now)
+  step_follows {h = h} (Call.OfflineAll d now) K Y = by_mechanism (L.offline-all h d now) (offline-all-follows K.in_step Y d now)
   step_follows {h = h} (Call.SetWeight d v w) K Y = by_mechanism (L.weight h d v w) (unwritten-follows K.in_step.lines Y 0)
   step_follows {h = h} (Call.SetWakeBoost on) K Y = by_mechanism (L.boost h on) (unwritten-follows K.in_step.lines Y 0)
   step_follows (Call.Advance now) K Y = advance-follows now K Y

@@ -122,7 +122,7 @@ module _ {k : Shape} {b : Book} {s : System} (K : InStep k b s) (Y : Rights s) w
 onto-append : (i l : ℕ) (xs ys : List Dated) → latest_onto i l (xs ++ ys) ≡ latest_onto i (latest_onto i l xs) ys
 unfolding latest_onto
 onto-append i l [] ys = refl
-onto-append i l (x ∷ xs) ys = onto-append i _ xs ys
+onto-append i l (x ∷ xs) ys = onto-append i (latest_onto i l (x ∷ [])) xs ys
 
 -- one entry after another, where whoever is Offline after the first is so after the second
 joined-last : (e f : Entry) (i l : ℕ) → ((e.book i).state ≡ Offline → (f.book i).state ≡ Offline)

@@ -37,9 +37,9 @@ module _ {M : Machine} (L : Lawful M) where
       → Turned k H (moves_after M k h b cs) (book_after M k h b cs)
   unfolding book_after moves_after
   after-turned {H = H} [] h b K T = record { ends = H; tracks = T; turns = λ p. moves.done }
-  after-turned (c ∷ cs) h b K T =
+  after-turned {H = H} (c ∷ cs) h b K T =
       let r = made-turned (call_enters L c K).made T in
-      let s = after-turned cs _ _ (step-goes L c K).kept r.tracks in
+      let s = after-turned {H = r.ends} cs _ _ (step-goes L c K).kept r.tracks in
       record { ends = s.ends; tracks = s.tracks; turns = λ p. turns_then (r.turns p) (s.turns p) }
 
   after-within : {k : Shape} (cs : List Call) (h : M.Host) (b : Book) → Kept M k b h

@@ -53,7 +53,7 @@ depart K (lists.Departs.block d v now) p =
     let T = K.in_step in departure (block_shrinks _ T.tables T.sound d v now) (requested-keeps _ T.sound T.tables d v _) p
 depart K (lists.Departs.offline d v now) p =
     let T = K.in_step in departure (offline_shrinks _ T.tables T.sound d v now) (requested-keeps _ T.sound T.tables d v _) p
-depart K (lists.Departs.offline_all d now) p =
+depart K (lists.Departs.offline-all d now) p =
     let T = K.in_step in departure (offline-all_shrinks _ T.tables T.sound d now) (offline-all-keeps _ T.sound T.tables d now) p
 
 boost-on : {h : Host} {g t : ℕ} (on : Bool) → Bounded g t h → Bounded g t (Next h (Call.SetWakeBoost on))
@@ -72,7 +72,7 @@ refused-same {h = h} K c n = service_lawful.refused h c K.in_step.tables K.in_st
 not-advance : {c : Call} → Departs c → advance_clock c ≡ lists.none
 not-advance (lists.Departs.block d v now) = refl
 not-advance (lists.Departs.offline d v now) = refl
-not-advance (lists.Departs.offline_all d now) = refl
+not-advance (lists.Departs.offline-all d now) = refl
 
 refused_no_advance : {k : Shape} {b : Book} {h : Host} (c : Call) → Kept service_machine k b h
     → ((step h c).number ≡ 0 → ⊥) → advance_clock c ≡ lists.none
@@ -96,25 +96,25 @@ rest-along : {k : Shape} {b : Book} {h : Host} {g t : ℕ} (before rest : List C
     → Bounded g t h → Bounded g (since t (latest before)) (after_all service_machine h before)
 unfolding after_all latest
 rest-along [] rest r f K p = p
-rest-along {h = h} {g = g} {t = t} (c ∷ bs) rest (lists.PoolRest.advances {n = n} lo up r) f K p =
+rest-along {k = k} {b = b} {h = h} {g = g} {t = t} (c ∷ bs) rest (lists.PoolRest.advances {n = n} lo up r) f K p =
     subst (λ (u : ℕ). Bounded g u (after_all service_machine (Next h (Call.Advance n)) bs)) (sym (since-advance t n (latest bs)))
-    (rest-along bs rest r f.1 (step-goes service_lawful (Call.Advance n) K).kept (go_on_lem g t n f.0 lo up K p))
-rest-along {h = h} {g = g} {t = t} (c ∷ bs) rest (lists.PoolRest.departs d r) f K p =
+    (rest-along {b = (lists.entry_of service_machine k h b (Call.Advance n)).book} bs rest r f.1 (step-goes service_lawful (Call.Advance n) K).kept (go_on_lem g t n f.0 lo up K p))
+rest-along {k = k} {b = b} {h = h} {g = g} {t = t} (c ∷ bs) rest (lists.PoolRest.departs d r) f K p =
     subst (λ (u : ℕ). Bounded g u (after_all service_machine (Next h c) bs)) (sym (since-other t (latest bs) (not-advance d)))
-    (rest-along bs rest r f.1 (step-goes service_lawful c K).kept (depart K d p))
-rest-along {h = h} {g = g} {t = t} (c ∷ bs) rest (lists.PoolRest.boosts {on = on} r) f K p =
+    (rest-along {b = (lists.entry_of service_machine k h b c).book} bs rest r f.1 (step-goes service_lawful c K).kept (depart K d p))
+rest-along {k = k} {b = b} {h = h} {g = g} {t = t} (c ∷ bs) rest (lists.PoolRest.boosts {on = on} r) f K p =
     subst (λ (u : ℕ). Bounded g u (after_all service_machine (Next h (Call.SetWakeBoost on)) bs)) (sym (since-other t (latest bs) refl))
-    (rest-along bs rest r f.1 (step-goes service_lawful (Call.SetWakeBoost on) K).kept (boost-on on p))
-rest-along {h = h} {g = g} {t = t} (c ∷ bs) rest (lists.PoolRest.refused n r) f K p =
+    (rest-along {b = (lists.entry_of service_machine k h b (Call.SetWakeBoost on)).book} bs rest r f.1 (step-goes service_lawful (Call.SetWakeBoost on) K).kept (boost-on on p))
+rest-along {k = k} {b = b} {h = h} {g = g} {t = t} (c ∷ bs) rest (lists.PoolRest.refused n r) f K p =
     subst (λ (u : ℕ). Bounded g u (after_all service_machine (Next h c) bs)) (sym (since-other t (latest bs) (refused_no_advance c K n)))
-    (rest-along bs rest r f.1 (step-goes service_lawful c K).kept (subst (Bounded g t) (sym (refused-same K c n)) p))
+    (rest-along {b = (lists.entry_of service_machine k h b c).book} bs rest r f.1 (step-goes service_lawful c K).kept (subst (Bounded g t) (sym (refused-same K c n)) p))
 
 prepares_no_advance : {n : ℕ} {c : Call} → Prepares n c → advance_clock c ≡ lists.none
 prepares_no_advance (lists.Prepares.admit d v) = refl
 prepares_no_advance (lists.Prepares.block d v now) = refl
 prepares_no_advance (lists.Prepares.wake d v) = refl
 prepares_no_advance (lists.Prepares.offline d v now) = refl
-prepares_no_advance (lists.Prepares.offline_all d now) = refl
+prepares_no_advance (lists.Prepares.offline-all d now) = refl
 prepares_no_advance (lists.Prepares.mask d v m e) = refl
 prepares_no_advance (lists.Prepares.weigh d v w) = refl
 prepares_no_advance (lists.Prepares.boost on) = refl
@@ -139,13 +139,13 @@ pub list_along : {k : Shape} {b : Book} {h : Host} {g : ℕ} (xs rest : List Cal
     → Kept service_machine k b h → Prepared h → At g (after_all service_machine h xs) (latest xs)
 unfolding after_all latest
 list_along [] rest r f K P = before P
-list_along {h = h} {g = g} (c ∷ xs) rest (lists.PoolList.prepares d r) f K P =
+list_along {k = k} {b = b} {h = h} {g = g} (c ∷ xs) rest (lists.PoolList.prepares d r) f K P =
     subst (At g (after_all service_machine (Next h c) xs)) (latest-rest (latest xs) (prepares_no_advance d))
-    (list_along xs rest r f.1 (step-goes service_lawful c K).kept (prepare K P f.0 d))
-list_along {h = h} {g = g} (c ∷ xs) rest (lists.PoolList.refused n r) f K P =
+    (list_along {b = (lists.entry_of service_machine k h b c).book} xs rest r f.1 (step-goes service_lawful c K).kept (prepare K P f.0 d))
+list_along {k = k} {b = b} {h = h} {g = g} (c ∷ xs) rest (lists.PoolList.refused n r) f K P =
     subst (At g (after_all service_machine (Next h c) xs)) (latest-rest (latest xs) (refused_no_advance c K n))
-    (list_along xs rest r f.1 (step-goes service_lawful c K).kept (subst Prepared (sym (refused-same K c n)) P))
-list_along {h = h} {g = g} (c ∷ xs) rest (lists.PoolList.starts {n = n} r) f K P =
+    (list_along {b = (lists.entry_of service_machine k h b c).book} xs rest r f.1 (step-goes service_lawful c K).kept (subst Prepared (sym (refused-same K c n)) P))
+list_along {k = k} {b = b} {h = h} {g = g} (c ∷ xs) rest (lists.PoolList.starts {n = n} r) f K P =
     subst (At g (after_all service_machine (Next h (Call.Advance n)) xs)) (latest-first n (latest xs))
     (after (rest-along xs rest r f.1 (step-goes service_lawful (Call.Advance n) K).kept (start g n f.0 K P)))
 

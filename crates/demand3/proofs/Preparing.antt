@@ -56,7 +56,7 @@ prepare {h = h} K P f (lists.Prepares.wake d v) =
 prepare {h = h} K P f (lists.Prepares.offline d v now) =
     let T = K.in_step in
     by_mechanism P (requested-keeps _ T.sound T.tables d v _) (offline-unrun _ T.tables T.sound P.unrun d v now)
-prepare {h = h} K P f (lists.Prepares.offline_all d now) =
+prepare {h = h} K P f (lists.Prepares.offline-all d now) =
     let T = K.in_step in
     by_mechanism P (offline-all-keeps _ T.sound T.tables d now) (offline-all-unrun _ T.tables T.sound P.unrun d now)
 prepare {h = h} K P f (lists.Prepares.mask d v m e) =

@@ -70,14 +70,14 @@ module _ {M : Machine} (L : Lawful M) where
       → Kept M k b h → Early k b c → Early k (book_after M k h b cs) c'
   unfolding book_after
   forward-early lists.Forward.done K E = E
-  forward-early (lists.Forward.timed {n = n} {x = x} e f l r) K E =
-      forward-early r (step-goes L x K).kept (made-early n (λ m g. cc) (call_enters L x K).made (early-later l E))
-  forward-early {c = c} (lists.Forward.untimed {x = x} f r) K E =
-      forward-early r (step-goes L x K).kept (made-early c (λ m g. absurd (zero_one cc)) (call_enters L x K).made E)
-  forward-early {k} {b} {c = c} (lists.Forward.refused {x = x} f r) K E =
+  forward-early {k = k} {b = b} (lists.Forward.timed {h = h} {n = n} {x = x} e f l r) K E =
+      forward-early {b = (lists.entry_of M k h b x).book} r (step-goes L x K).kept (made-early n (λ m g. cc) (call_enters L x K).made (early-later l E))
+  forward-early {k = k} {b = b} {c = c} (lists.Forward.untimed {h = h} {x = x} f r) K E =
+      forward-early {b = (lists.entry_of M k h b x).book} r (step-goes L x K).kept (made-early c (λ m g. absurd (zero_one cc)) (call_enters L x K).made E)
+  forward-early {k} {b} {c = c} (lists.Forward.refused {h = h} {x = x} f r) K E =
       let g = step-goes L x K in
       let e = (call_enters L x K).spared (λ z. f (g.number ∙ z)) in
-      forward-early r g.kept (subst (λ (y : Entry). Early k y.book c) (sym e) E)
+      forward-early {b = (lists.entry_of M k h b x).book} r g.kept (subst (λ (y : Entry). Early k y.book c) (sym e) E)
 
   pub machine_uncut : EveryForwardUncut M
   machine_uncut k b h c T E cs c' r =

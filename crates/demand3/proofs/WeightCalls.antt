@@ -16,7 +16,7 @@ use Rattle.host.specs.declared.Host.{Host}
 use Rattle.calls.specs.declared.Call.{Call}
 use Rattle.host.specs.Step.{step}
 use Rattle.demand3.specs.ServiceMachine.{service_machine}
-use Rattle.demand3.specs.Lists.{after_all}
+use Rattle.demand3.specs.Lists.{entry_of, after_all}
 use Rattle.demand3.specs.Book.{Book, Shape}
 use Rattle.demand3.specs.Weights.{weight_by, weight_through}
 use Rattle.demand3.proofs.EveryCall.{Kept, step-goes}
@@ -97,4 +97,5 @@ pub after-weighs : {k : Shape} {b : Book} {e u : ℕ} {w : ℕ → ℕ → ℕ} 
     → Weighs e u (λ d v. weight_through d v (w d v) cs) (after_all service_machine h cs).scheduler
 unfolding after_all weight_through
 after-weighs [] h K W = W
-after-weighs (c ∷ cs) h K W = after-weighs cs _ (step-goes service_lawful c K).kept (step-weighs c K W)
+after-weighs {k = k} {b = b} (c ∷ cs) h K W =
+    after-weighs {b = (entry_of service_machine k h b c).book} cs _ (step-goes service_lawful c K).kept (step-weighs c K W)

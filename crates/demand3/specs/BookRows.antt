@@ -77,7 +77,7 @@ advanced = enter k (book (runs ++ (call.admit 1 1 ∷ []))) (Call.Advance 30) (P
 
 -- ---- the tables
 
--- one v_cPU's line
+-- one vCPU's line
 abbrev pub written : List Row
 written =
     -- at first Offline, nothing run, the mask full

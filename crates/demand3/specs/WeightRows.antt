@@ -21,7 +21,7 @@ weights =
     -- the latest counts
     ∷ row (after (Call.SetWeight 0 0 5 ∷ Call.SetWeight 0 0 7 ∷ []) 0 0) 7
     ∷ row (after (Call.SetWeight 0 0 5 ∷ Call.SetWeight 0 0 0 ∷ []) 0 0) 1
-    -- another v_cPU's weight, and another domain's
+    -- another vCPU's weight, and another domain's
     ∷ row (after (Call.SetWeight 0 0 5 ∷ Call.SetWeight 0 1 7 ∷ Call.SetWeight 1 0 9 ∷ []) 0 0) 5
     -- no other call touches it, also not going offline
     ∷ row (after (Call.SetWeight 0 0 5 ∷ call.admit 0 0 ∷ Call.SetWakeBoost false ∷ Call.Advance 0 ∷ call.offline 0 0 9 ∷ []) 0 0) 5
