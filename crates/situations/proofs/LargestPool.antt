@@ -114,13 +114,13 @@ module _ (q a g : ℕ) (early : a < 2 ^ 64) (near : 2 ^ 64 - 1 ≤ a + g) where
       (lists.refused {h = host_at f masked} {c = call.run 15 7 64 (2 ^ 64 - 1)} (λ e. omega (arith, refused masked _ (2 ^ 64 - 1) refl))
       (lists.prepares (lists.weigh 15 7 (2 ^ 32 - 1)) (lists.prepares (lists.boost false) (lists.prepares (lists.boost true)
       (lists.prepares (lists.admit 15 7) (lists.prepares (lists.block 15 7 (2 ^ 64 - 1)) (lists.prepares (lists.wake 15 7)
-      (lists.prepares (lists.offline 15 7 0) (lists.prepares (lists.offline_all 15 (2 ^ 64 - 1))
+      (lists.prepares (lists.offline 15 7 0) (lists.prepares (lists.offline-all 15 (2 ^ 64 - 1))
       (admitted 128 _
       (lists.starts (lists.advances {t = a} {n = 2 ^ 64 - 1} (omega arith) near
       (lists.departs (lists.block 0 0 0)
       (lists.refused {h = host_at f departed} {c = call.run 15 7 64 5} (λ e. omega (arith, refused departed _ 5 refl))
       (lists.boosts (lists.boosts
-      (lists.departs (lists.offline 0 1 (2 ^ 64 - 1)) (lists.departs (lists.offline_all 1 0) lists.done))))))))))))))))))
+      (lists.departs (lists.offline 0 1 (2 ^ 64 - 1)) (lists.departs (lists.offline-all 1 0) lists.done))))))))))))))))))
     where
       masked : List Call
       masked = call.set_affinity 15 7 (2 ^ 64 - 1) ∷ []
