@@ -1,4 +1,2 @@
 pub mod Laws
-pub mod Taking
-pub mod Draws
 mod Nonzero
