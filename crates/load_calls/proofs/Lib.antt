@@ -5,5 +5,3 @@ mod Clock
 mod States
 mod Widths
 mod Meaning
-mod Drawing
-mod Matched

@@ -1,14 +1,10 @@
 -- `load_calls::kind_of` meets its contract: each arm's kind is the one that stands at its remainder. Assumes nothing.
-use mathlib.Core.Path.{◌≡◌, sym, ap}
-use Prim.Native.Nat.{ℕ, ◌%◌, ◌≤◌}
-use mathlib.Core.List.{List, [], ◌∷◌}
-use lib.ListN.{get_or, get_or-eq_default}
-use borrow.Author.Rules.{rules}
+use Rattle.std.proofs.Common.{◌≡◌, sym, ap, ℕ, ◌%◌, ◌≤◌, List, [], ◌∷◌, get_or, arith}
+use lib.ListN.{get_or-eq_default}
 use Rattle.load_calls.specs.declared.Kind.{Kind}
 use Rattle.load_calls.specs.declared.Kind.TheVariants.{Admit, Block, Wake, Mask, Advance}
 use Rattle.load_calls.specs.Calls.{kind_of}
-use Rattle.load_calls.proofs.kind_of.Statement.{statement}
-use Rattle.load_calls.proofs.kind_of.Tie as tie
+use Rattle.load_calls.proofs.kind_of.Goals as goal
 
 -- the kinds that stand in the definition's list; the default is not among them
 abbrev first : List Kind
@@ -22,5 +18,17 @@ rest : (n : ℕ) → 4 ≤ n % 5 → Advance ≡ kind_of n
 unfolding kind_of
 rest n h = sym (get_or-eq_default first Advance h)
 
-pub kind_of_spec : {M : Type 1} → statement M
-kind_of_spec = tie.close (tie.spec (λ c. stands _ 0 (search rules)) (λ c. stands _ 1 (search rules)) (λ c. stands _ 2 (search rules)) (λ c. stands _ 3 (search rules)) (λ c. rest _ (search rules)))
+pub returns-in-0 : goal.returns-in-0
+returns-in-0 c = stands _ 0 (omega arith)
+
+pub returns-in-1 : goal.returns-in-1
+returns-in-1 c = stands _ 1 (omega arith)
+
+pub returns-in-2 : goal.returns-in-2
+returns-in-2 c = stands _ 2 (omega arith)
+
+pub returns-in-3 : goal.returns-in-3
+returns-in-3 c = stands _ 3 (omega arith)
+
+pub returns-in_default : goal.returns-in_default
+returns-in_default c = rest _ (omega arith)
