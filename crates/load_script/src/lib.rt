@@ -81,6 +81,7 @@ fn refused(answer: Answer) -> Opened
 }
 
 /// A load of that seed, shape, slice and count of calls.
+#[tactic(auto, unfolding(crate::specs::Loads::opened))]
 pub fn open(seed: u64, shape: Shape, count: u32) -> Opened
     ensures { load_outcome result ≡ opened seed shape count }
 {
