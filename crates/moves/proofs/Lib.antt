@@ -1,4 +1,5 @@
 pub mod Laws
+pub mod Unique
 mod ScanSteps
 mod PlacementLoop
 mod PreemptionLoop

@@ -82,13 +82,16 @@ module _ (t : Standings) (i : ℕ) where
       go true e = absurd (n (usable-fits (t.last i) f.waits e))
       go false e = first-lowest p (fits-usable p f)
 
+-- one that waits, with a placement in the word, fits there; one that fits somewhere waits, with a placement in the word
+placed-fits : (t : Standings) (i : ℕ) → (t.waits i && ltb (placement t i) 64) ≡ true → Fits t i (placement t i)
+placed-fits t i e = let f = both _ _ e in placement-fits t i f.0 (ltb-true _ _ f.1)
+
+fits-placed : (t : Standings) (i p : ℕ) → Fits t i p → (t.waits i && ltb (placement t i) 64) ≡ true
+fits-placed t i p f = all_two f.waits (lt-ltb (placement t i) 64 (placement-finds t i p f))
+
 pub placeable-fits : (t : Standings) (i : ℕ) → placeable t i ≡ true → Fits t i (placement t i)
 unfolding placeable
-placeable-fits t i e = let f = both _ _ e in placement-fits t i f.0 (ltb-true _ _ f.1)
-
-fits-placeable : (t : Standings) (i p : ℕ) → Fits t i p → placeable t i ≡ true
-unfolding placeable
-fits-placeable t i p f = all_two f.waits (lt-ltb (placement t i) 64 (placement-finds t i p f))
+placeable-fits t i e = placed-fits t i e
 
 -- ---- being beaten
 
@@ -149,11 +152,11 @@ rest_why t n e = go (chosen t n) (victim t n) e
 
 -- a Run is of one that waits, onto an idle pCPU that its mask admits
 pub run_fits : (t : Standings) (n i p : ℕ) → decide t n ≡ Run i p → (i < n) × Fits t i p
-unfolding chosen
+unfolding chosen placeable
 run_fits t n i p e =
     let w = run_why t n i p e in
     let h = scan-sound (placeable t) t.beats n i w.0 in
-    (h.0, rw w.1 at (placeable-fits t i h.1))
+    (h.0, rw w.1 at (placed-fits t i h.1))
 
 -- at its placement
 pub run-placed : (t : Standings) (n i p : ℕ) → decide t n ≡ Run i p → placement t i ≡ p
@@ -167,12 +170,12 @@ pub record IsRun (d : Choice) : Type 0 where
 
 -- it is one if anybody who waits may use an idle pCPU
 pub run-found : (t : Standings) (n i p : ℕ) → i < n → Fits t i p → IsRun (decide t n)
-unfolding decide chosen
+unfolding decide chosen placeable
 run-found t n i p l f = go (chosen t n) refl
   where
     go : (r : Pick) → chosen t n ≡ r → IsRun (or_run t r (or_preempt t (victim t n)))
     go (at j) c = record { who = j; onto = placement t j; is = refl }
-    go nobody c = absurd (scan_complete (placeable t) t.beats n i l (fits-placeable t i p f) c)
+    go nobody c = absurd (scan_complete (placeable t) t.beats n i l (fits-placed t i p f) c)
 
 -- a Preempt is of one that is expired, where it runs, and that a waiter beats who may run there
 pub record IsStopped (t : Standings) (n i p : ℕ) : Type 0 where
@@ -209,18 +212,18 @@ turned R =
     }
 
 module _ (t : Standings) (n : ℕ) {P : ℕ → Type 0} (R : Ranks P t.beats) (P-of : (i : ℕ) → i < n → Fits t i (placement t i) → P i) where
-  passes : (i : ℕ) → i < n → placeable t i ≡ true → P i
-  passes i l c = P-of i l (placeable-fits t i c)
+  passes : (i : ℕ) → i < n → (t.waits i && ltb (placement t i) 64) ≡ true → P i
+  passes i l c = P-of i l (placed-fits t i c)
 
   pub pick-least : (i p j q : ℕ) → decide t n ≡ Run i p → j < n → Fits t j q → t.beats j i ≡ false
-  unfolding chosen
+  unfolding chosen placeable
   pick-least i p j q e l f =
-      scan-least (placeable t) t.beats R n passes n i j (le_refl n) (run_why t n i p e).0 l (fits-placeable t j q f)
+      scan-least (placeable t) t.beats R n passes n i j (le_refl n) (run_why t n i p e).0 l (fits-placed t j q f)
 
   pub pick-earliest : (i p j q : ℕ) → decide t n ≡ Run i p → j < i → Fits t j q → t.beats i j ≡ true
-  unfolding chosen
+  unfolding chosen placeable
   pick-earliest i p j q e l f =
-      scan-earliest (placeable t) t.beats R n passes n i j (le_refl n) (run_why t n i p e).0 l (fits-placeable t j q f)
+      scan-earliest (placeable t) t.beats R n passes n i j (le_refl n) (run_why t n i p e).0 l (fits-placed t j q f)
 
 module _ (t : Standings) (n : ℕ) {P : ℕ → Type 0} (R : Ranks P t.beats)
     (P-of : (i j : ℕ) → i < n → t.expired i ≡ true → Beats t n i j → P i) where
