@@ -131,7 +131,7 @@ module _ (e u q : ℕ) (cs before rest : List Call) (typed : AllTyped cs) (split
 
   pub counts-there : (page.domains s ≡ 16) × (reads.vcpu_count s 15 ≡ 8) × (reads.vcpu_count s 16 ≡ 0)
       × (page.pcpus s ≡ 64) × (reads.full_affinity s ≡ 2 ^ 64 - 1) × (first_violation s ≡ None)
-  counts-there = let a = here.agrees in (a.domains, a.vcpus 15, a.vcpus 16, a.pcpus, a.full_mask, a.sound)
+  counts-there = let a = here.agrees in (a.domains, a.vcpus 15, a.vcpus 16, a.pcpus, a.full-mask, a.sound)
 
   pub policy-there : (π.quantum ≡ q)
       × (weight π 15 7 ≡ cond (ltb 15 (min e 16) && ltb 7 (min u 8)) (weight_from 15 7 256 before) 256)

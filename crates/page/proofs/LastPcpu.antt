@@ -40,7 +40,7 @@ module _ (d v : ℕ) (small : v < 8) where
   unfolding latest_onto page.arrives_all
   latest-onto-is l [] = refl
   latest-onto-is l (m ∷ ms) =
-      latest-onto-is _ ms
+      latest-onto-is (latest_onto (d * 8 + v) l (m ∷ [])) ms
       ∙ ap (λ (n : ℕ). page.arrives_all d v n (map dated ms)) (arrives-is l m.direction m.slot m.pcpu m.clock)
 
   unless_is : (st : RunState) (l : ℕ) → last.unless_offline st l ≡ page.unless_offline st l

@@ -21,12 +21,12 @@ departs = (there, back)
     there : {c : Call} → page.Departs c → lists.Departs c
     there (page.Departs.block d v now) = lists.Departs.block d v now
     there (page.Departs.offline d v now) = lists.Departs.offline d v now
-    there (page.Departs.offline_all d now) = lists.Departs.offline_all d now
+    there (page.Departs.offline-all d now) = lists.Departs.offline-all d now
 
     back : {c : Call} → lists.Departs c → page.Departs c
     back (lists.Departs.block d v now) = page.Departs.block d v now
     back (lists.Departs.offline d v now) = page.Departs.offline d v now
-    back (lists.Departs.offline_all d now) = page.Departs.offline_all d now
+    back (lists.Departs.offline-all d now) = page.Departs.offline-all d now
 
 -- ---- after the first advance
 
@@ -66,7 +66,7 @@ module _ (k : Shape) (few : k.pcpus ≤ 64) where
       there (page.Prepares.block d v now) = lists.Prepares.block d v now
       there (page.Prepares.wake d v) = lists.Prepares.wake d v
       there (page.Prepares.offline d v now) = lists.Prepares.offline d v now
-      there (page.Prepares.offline_all d now) = lists.Prepares.offline_all d now
+      there (page.Prepares.offline-all d now) = lists.Prepares.offline-all d now
       there (page.Prepares.mask d v m x) = lists.Prepares.mask d v m (rw size x)
       there (page.Prepares.weigh d v w) = lists.Prepares.weigh d v w
       there (page.Prepares.boost on) = lists.Prepares.boost on
@@ -76,7 +76,7 @@ module _ (k : Shape) (few : k.pcpus ≤ 64) where
       back (lists.Prepares.block d v now) = page.Prepares.block d v now
       back (lists.Prepares.wake d v) = page.Prepares.wake d v
       back (lists.Prepares.offline d v now) = page.Prepares.offline d v now
-      back (lists.Prepares.offline_all d now) = page.Prepares.offline_all d now
+      back (lists.Prepares.offline-all d now) = page.Prepares.offline-all d now
       back (lists.Prepares.mask d v m x) = page.Prepares.mask d v m (rw (← size) x)
       back (lists.Prepares.weigh d v w) = page.Prepares.weigh d v w
       back (lists.Prepares.boost on) = page.Prepares.boost on

@@ -1,5 +1,5 @@
 -- The host situations of document 01, computed from the page alone, beside what is due. Assumes nothing.
-use Prim.Native.Nat.{ℕ, ◌+◌, ◌-◌}
+use Prim.Native.Nat.{ℕ, ◌+◌}
 use mathlib.Core.Path.{refl}
 use mathlib.Core.List.{List, [], ◌∷◌}
 use Rattle.rows.specs.Rows.{Row, row, rows, test, AllDue}

@@ -11,8 +11,6 @@ use Rattle.system.specs.declared.System.{System}
 use Rattle.system.specs.Slots as slots
 use Rattle.system.specs.Slots.{slot_of}
 use Rattle.system.specs.Records as records
-use Rattle.system.specs.States as states
-use Rattle.system.specs.Reads as reads
 use Rattle.system.specs.Reads.{vcpu_at, occupant_at}
 use Rattle.policy.specs.declared.Scheduler.{Scheduler}
 use Rattle.policy.specs.Accounts as accounts

@@ -39,7 +39,7 @@ pub held-after-is : (p : ℕ) (h : Hold) (ms : List Dated) → held (hold_after 
 unfolding hold_after page.held_after
 held-after-is p h [] = refl
 held-after-is p h (m ∷ ms) =
-    held-after-is p _ ms
+    held-after-is p (hold_after p h (m ∷ [])) ms
     ∙ ap (λ (g : page.Hold). page.held_after p g (map dated ms)) (step m.direction m.slot m.pcpu m.clock)
   where
     turn : (t : Bool) (g : Hold) → held (cond t g h) ≡ cond t (held g) (held h)

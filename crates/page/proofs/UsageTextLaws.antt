@@ -1,4 +1,4 @@
--- A v_cPU's weight and service in a file, and a domain's lines, are the page's, for any bytes. Assumes nothing.
+-- A vCPU's weight and service in a file, and a domain's lines, are the page's, for any bytes. Assumes nothing.
 use Prim.Native.Nat.{ℕ, ◌+◌, ◌*◌, ◌/◌, ◌≤◌, min}
 use mathlib.Core.Bool.{Bool, true, false, cond, ◌&&◌}
 use mathlib.Core.List.{List, []}

@@ -16,7 +16,7 @@ pub record Shape : Type 0 where
   pub vcpus : ℕ
   pub pcpus : ℕ
 
--- a v_cPU's state, its run time, the clock of its run, its mask
+-- a vCPU's state, its run time, the clock of its run, its mask
 pub record Line : Type 0 where
   pub state : RunState
   pub time : ℕ
