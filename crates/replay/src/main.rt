@@ -2,11 +2,12 @@
 
 #![tactic(auto)]
 
-fn main() {
+fn main(rt: HostRuntime) {
     // the bytes of 1000 records, and room for their text
     let mut input = [0u8; 20000];
     let mut output = [0u8; 63000];
     play::to_end(
+        &rt,
         &mut input,
         &mut output,
         false,
