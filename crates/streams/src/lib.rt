@@ -6,6 +6,8 @@
 ghost use Rattle.std.specs.Prelude.{◌+◌, ◌≤◌, length};
 ghost use Rattle.io.specs.Counts.{IsPrefixLen};
 
+use std::io::{Print, Read};
+
 /// How many bytes were read, and whether a read failed after them.
 #[derive(Clone, Copy)]
 pub struct Got {
@@ -14,25 +16,29 @@ pub struct Got {
 }
 
 // One read into the room from that index on: how many bytes came, and whether it failed.
-fn read_at(room: &mut [u8], from: usize) -> Got
+fn read_at(rt: &HostRuntime, room: &mut [u8], from: usize) -> Got
     requires { from ≤ length room.old }
     ensures { from + result.bytes ≤ length room.old }
 {
-    let rest: &mut [u8] = &mut room[from..];
-    let got = libc::read(libc::STDIN_FILENO, rest);
-    Got {
-        bytes: io::count(got, rest),
-        failed: got < 0,
+    match rt.stdin().read(&mut room[from..]) {
+        Ok(bytes) => Got {
+            bytes,
+            failed: false,
+        },
+        Err(_) => Got {
+            bytes: 0,
+            failed: true,
+        },
     }
 }
 
 /// Reads until the room is full, the input ends or a read fails.
-pub fn read(room: &mut [u8]) -> Got
+pub fn read(rt: &HostRuntime, room: &mut [u8]) -> Got
     ensures { IsPrefixLen result.bytes room.new }
 {
     let mut bytes: usize = 0;
     while bytes < room.len() {
-        let more = read_at(room, bytes);
+        let more = read_at(rt, room, bytes);
         if more.bytes == 0 {
             return Got {
                 bytes,
@@ -48,15 +54,16 @@ pub fn read(room: &mut [u8]) -> Got
 }
 
 /// Says words on standard error.
-pub fn say(words: &[u8]) {
-    io::write_all(libc::STDERR_FILENO, words);
+pub fn say(rt: &HostRuntime, words: &[u8]) {
+    // where standard error takes nothing, nobody can be told
+    let _ = rt.stderr().write_all(words);
 }
 
 /// Writes bytes; where not all of them are taken it says the words. Whether all were.
-pub fn put(bytes: &[u8], words: &[u8]) -> bool {
-    let taken = io::write_all(libc::STDOUT_FILENO, bytes);
+pub fn put(rt: &HostRuntime, bytes: &[u8], words: &[u8]) -> bool {
+    let taken = rt.stdout().write_all(bytes).is_ok();
     if !taken {
-        say(words);
+        say(rt, words);
     }
     taken
 }
