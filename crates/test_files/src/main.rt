@@ -5,35 +5,41 @@
 #![tactic(auto)]
 
 use big_endian::{double, half};
+use std::io::Print;
 use system::{Answer, MAX_DOMAINS};
 
 // The longest file that is looked at; the longest that is accepted has 2662 bytes.
 const ROOM: usize = 4096;
 
-fn put(n: u64, end: &[u8]) {
-    io::print_decimal(libc::STDOUT_FILENO, n);
-    io::write_all(libc::STDOUT_FILENO, end);
+fn put_bytes(rt: &HostRuntime, bytes: &[u8]) {
+    streams::put(rt, bytes, b"test_files: standard output takes no more\n");
+}
+
+fn put(rt: &HostRuntime, n: u64, end: &[u8]) {
+    // what is not taken is said of the next bytes
+    let _ = rt.stdout().print(n);
+    put_bytes(rt, end);
 }
 
 // By one reader, what it gives of each domain.
-fn put_bodies(file: &[u8]) {
+fn put_bodies(rt: &HostRuntime, file: &[u8]) {
     let text = usage_read::text_of(file, MAX_DOMAINS);
     let bytes = text.bytes;
     let n = text.length;
-    io::write_all(libc::STDOUT_FILENO, &bytes[..n]);
+    put_bytes(rt, &bytes[..n]);
 }
 
-fn examine(file: &[u8], domain: usize) {
+fn examine(rt: &HostRuntime, file: &[u8], domain: usize) {
     let count = usage_parse::domain_count(file);
     if count == usage_parse::REFUSED {
-        put(system::number_of(Answer::BadFile), b" 0 ");
+        put(rt, system::number_of(Answer::BadFile), b" 0 ");
     } else {
-        put(0, b" ");
-        put(count as u64, b" ");
+        put(rt, 0, b" ");
+        put(rt, count as u64, b" ");
     }
-    put(usage_read::answer_of(file, domain), b" ");
-    put(usage_read::body_of(file, domain).len() as u64, b"\n");
-    put_bodies(file);
+    put(rt, usage_read::answer_of(file, domain), b" ");
+    put(rt, usage_read::body_of(file, domain).len() as u64, b"\n");
+    put_bodies(rt, file);
 }
 
 // The number in the 8 bytes from index 2 on.
@@ -43,41 +49,41 @@ fn domain_in(head: [u8; 10]) -> u64 {
     )
 }
 
-fn read_first(input: &mut [u8], n: usize) -> usize {
+fn read_first(rt: &HostRuntime, input: &mut [u8], n: usize) -> usize {
     if input.len() < n {
         return 0;
     }
-    io::read_full(libc::STDIN_FILENO, &mut input[..n])
+    streams::read(rt, &mut input[..n]).bytes
 }
 
-fn examine_first(input: &[u8], n: usize, domain: usize) {
+fn examine_first(rt: &HostRuntime, input: &[u8], n: usize, domain: usize) {
     if n <= input.len() {
-        examine(&input[..n], domain);
+        examine(rt, &input[..n], domain);
     }
 }
 
 // One file; false where there is none left.
-fn examined() -> bool {
+fn examined(rt: &HostRuntime) -> bool {
     let mut head = [0u8; 10];
     let mut input = [0u8; ROOM];
-    let got = io::read_full(libc::STDIN_FILENO, &mut head);
+    let got = streams::read(rt, &mut head).bytes;
     let length = half(head[0], head[1]) as usize;
     if got < 10 {
         return false;
     }
-    let read = read_first(&mut input, length);
+    let read = read_first(rt, &mut input, length);
     if read < length {
         return false;
     }
-    examine_first(&input, length, domain_in(head) as usize);
+    examine_first(rt, &input, length, domain_in(head) as usize);
     true
 }
 
-fn main() {
+fn main(rt: HostRuntime) {
     // a proved loop has to end, and nothing says that the input does
     let mut turns = u64::MAX;
     while turns > 0 {
-        let more = examined();
+        let more = examined(&rt);
         if !more {
             return;
         }
