@@ -12,23 +12,26 @@ struct Turn {
     more: bool,
 }
 
-fn put(r: Record) -> bool {
+fn put(rt: &HostRuntime, r: Record) -> bool {
     let mut bytes = [0u8; 20];
     records::put_record(&mut bytes, 0, r);
-    streams::put(&bytes, b"test_load: standard output takes no more\n")
+    streams::put(rt, &bytes, b"test_load: standard output takes no more\n")
 }
 
-fn put_next(l: Load) -> Turn {
+fn put_next(rt: &HostRuntime, l: Load) -> Turn {
     let handed = load_script::next(l);
     let load = handed.load;
     let next = handed.next;
     match next {
         MaybeRecord::None => Turn { load, more: false },
-        MaybeRecord::Some(r) => Turn { load, more: put(r) },
+        MaybeRecord::Some(r) => Turn {
+            load,
+            more: put(rt, r),
+        },
     }
 }
 
-fn main() {
+fn main(rt: HostRuntime) {
     let shape = Shape {
         num_domains: 3,
         vcpus_per_domain: 2,
@@ -40,7 +43,7 @@ fn main() {
     // it ends where no record is handed out, well before this
     let mut turns = u64::MAX;
     while turns > 0 {
-        let turned = put_next(l);
+        let turned = put_next(&rt, l);
         if !turned.more {
             return;
         }
