@@ -6,6 +6,8 @@ ghost use Rattle.std.specs.Prelude.{◌≡◌, ◌+◌, ◌-◌, ◌*◌, ◌/�
 ghost use Rattle.masks.specs.Masks.{permits, full_mask, clipped, lowest};
 ghost use Rattle.service.specs.Service.{value, held, more_deserving};
 
+use std::io::Print;
+
 const ZERO: [u32; 4] = [0; 4];
 
 const ONE: [u32; 4] = [1, 0, 0, 0];
@@ -101,6 +103,7 @@ fn finds(set: u64, want: u32)
     check::expect(masks::lowest_pcpu(set) == want);
 }
 
+#[tactic(auto, unfolding(service::specs::Service::value, service::specs::Service::limbs, service::specs::Service::held))]
 fn sums_and_differences() {
     converts(0, ZERO);
     converts(1, ONE);
@@ -118,6 +121,7 @@ fn sums_and_differences() {
     subtracts(TOP, ZERO, TOP);
 }
 
+#[tactic(auto, unfolding(service::specs::Service::value, service::specs::Service::limbs, service::specs::Service::held))]
 fn products_and_quotients() {
     multiplies(TOP, 0, ZERO);
     multiplies(TOP, 1, TOP);
@@ -135,6 +139,7 @@ fn products_and_quotients() {
     divides(ZERO, 0, ZERO);
 }
 
+#[tactic(auto, unfolding(service::specs::Service::value, service::specs::Service::more_deserving))]
 fn orders_of_services() {
     orders(ZERO, ZERO, false);
     orders(LIMB, BASE, true);
@@ -156,17 +161,18 @@ fn orders_of_services() {
     ranks(ZERO, 0, ZERO, u32::MAX, false);
 }
 
-// Each p_cPU's bit is twice the one before it; from 64 up there is none.
+// Each pCPU's bit is twice the one before it; from 64 up there is none.
 fn bits_of_pcpus() {
     let mut want: u64 = 1;
     let mut pcpu: u32 = 0;
     while pcpu <= 64 {
         check::expect(masks::pcpu_bit(pcpu) == want);
-        want = std::num::wrapping_add_u64(want, want);
+        want = want.wrapping_add(want);
         pcpu += 1;
     }
 }
 
+#[tactic(auto, unfolding(masks::specs::Masks::first))]
 fn sets_of_pcpus() {
     fills(0, 0);
     fills(1, 1);
@@ -188,14 +194,14 @@ fn sets_of_pcpus() {
     finds(0xffff_0000_0000_0000 & 0xaaaa_aaaa_aaaa_aaaa, 49);
 }
 
-fn main() {
+fn main(rt: HostRuntime) {
     sums_and_differences();
     products_and_quotients();
     orders_of_services();
     bits_of_pcpus();
     sets_of_pcpus();
-    io::write_all(
-        libc::STDOUT_FILENO,
-        b"123 boundary vectors of masks and service: all hold\n",
-    );
+    // what is not taken is missed by whoever compares it
+    let _ = rt
+        .stdout()
+        .write_all(b"123 boundary vectors of masks and service: all hold\n");
 }
