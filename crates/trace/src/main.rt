@@ -2,11 +2,12 @@
 
 #![tactic(auto)]
 
-fn main() {
+fn main(rt: HostRuntime) {
     // the bytes of 40 records, and room for their text
     let mut input = [0u8; 800];
     let mut output = [0u8; 1148000];
     play::to_end(
+        &rt,
         &mut input,
         &mut output,
         true,
