@@ -3,3 +3,4 @@ mod Limbs
 mod Sizes
 mod FileLoop
 mod EachElement
+mod Fits
