@@ -1,13 +1,9 @@
 -- What the code reads at a slot is the account there. Assumes nothing.
-use Prim.Native.Nat.{ℕ, zero, suc, ◌<◌}
-use mathlib.Core.Path.{◌≡◌, refl}
-use mathlib.Core.List.{List, [], ◌∷◌}
-use native.Mathlib.Omega.{arith}
-use lib.ListN.{length, get_or}
+use Rattle.std.proofs.Common.{◌≡◌, List, [], ◌∷◌, ℕ, zero, suc, ◌<◌, length, get_or, refl, arith}
 use Rattle.policy.specs.declared.Account.{Account}
 use Rattle.policy.specs.declared.Scheduler.{Scheduler}
-use Rattle.policy.specs.Accounts.{blank_account, account_at}
-use Rattle.policy.proofs.Laws.{Tabled, zeros}
+use Rattle.policy.specs.Accounts.{blank_account, account_at, Tabled}
+use Rattle.policy.proofs.Laws.{zeros}
 use Rattle.test_fields.specs.Fields.{slot_of}
 
 -- an element that is there does not depend on what is read past the end

@@ -114,6 +114,7 @@ fn third(r: Record, kind: u16, old: u32) -> u32
 
 // ---- the records of a host
 
+#[tactic(auto, unfolding(crate::specs::Fields::vcpu_written))]
 fn vcpu(r: Record, v: VirtualCpu) -> VirtualCpu
     ensures { result ≡ vcpu_written r v }
 {
@@ -127,6 +128,7 @@ fn vcpu(r: Record, v: VirtualCpu) -> VirtualCpu
     }
 }
 
+#[tactic(auto, unfolding(crate::specs::Fields::system_written, system::specs::Reads::vcpu_at, system::specs::Reads::occupant_at))]
 fn system(r: Record, mut s: System) -> System
     ensures { result ≡ system_written r s }
 {
@@ -145,6 +147,7 @@ fn system(r: Record, mut s: System) -> System
     s
 }
 
+#[tactic(auto, unfolding(crate::specs::Fields::account_written))]
 fn account(r: Record, a: Account) -> Account
     ensures { result ≡ account_written r a }
 {

@@ -1,7 +1,0 @@
--- `test_fields::count` meets its contract. Assumes nothing.
-use borrow.Author.Tests.{eq-eqb, ne_eqb}
-use Rattle.test_fields.proofs.count.Statement.{statement}
-use Rattle.test_fields.proofs.count.Tie as tie
-
-pub count_spec : {M : Type 1} → statement M
-count_spec = tie.close (tie.spec (λ c. rw (eq-eqb _ _ c.if1.true)) (λ c. rw (ne_eqb _ _ c.if1.false)))
