@@ -18,7 +18,7 @@ use Rattle.moves.specs.declared.Choice.{Choice}
 use Rattle.moves.specs.declared.Choice.TheVariants.{Run, Preempt}
 use Rattle.rules.specs.Rules.{Rule}
 use Rattle.rules.specs.Choices.{standings, choice}
-use Rattle.rules.specs.ChoiceLaws.{can-expired, choice-preempt}
+use Rattle.rules.proofs.ChoiceLaws.{can-expired, choice-preempt}
 use Rattle.rules.specs.Due.{due, IsDue}
 use Rattle.rules.specs.Settle.{enacted, slot_in}
 use Rattle.rules.specs.Steady.{CanMove, run, preempt}

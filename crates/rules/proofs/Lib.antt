@@ -1,4 +1,5 @@
 pub mod Laws
+pub mod ChoiceLaws
 mod OneMove
 mod DueLaws
 mod Potential

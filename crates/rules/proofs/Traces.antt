@@ -28,7 +28,7 @@ use Rattle.moves.specs.declared.Choice.TheVariants.{Run, Preempt, Rest}
 use Rattle.rules.specs.Settle.{enacted, Settled, with_move, go_on, settle, moves_on, limit}
 use Rattle.rules.specs.Rules.{Rule}
 use Rattle.rules.specs.Choices.{choice}
-use Rattle.rules.specs.ChoiceLaws.{choice-run, choice_complete}
+use Rattle.rules.proofs.ChoiceLaws.{choice-run, choice_complete}
 use Rattle.rules.specs.Due.{IsDue, TakenOff, chosen}
 use Rattle.rules.proofs.DueLaws.{chosen-due}
 use Rattle.rules.proofs.OneMove.{run-wrote, run-keeps, preempt-wrote, preempt-keeps}
