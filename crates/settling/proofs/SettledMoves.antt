@@ -18,7 +18,7 @@ use Rattle.moves.specs.TableWrites.{dispatched_in, left_in}
 use Rattle.moves.specs.Settling.{and_after, settled}
 use Rattle.rules.specs.Rules.{Rule}
 use Rattle.rules.specs.Choices.{choice}
-use Rattle.rules.specs.ChoiceLaws.{choice-run, choice-unbarred, choice-preempt}
+use Rattle.rules.proofs.ChoiceLaws.{choice-run, choice-unbarred, choice-preempt}
 use Rattle.rules.specs.Steady.{run, preempt}
 use Rattle.rules.specs.Settle.{go_on, settle}
 use Rattle.settling.specs.IdleSet.{idle_set}

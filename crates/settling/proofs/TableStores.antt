@@ -131,7 +131,7 @@ four-same-slot t j w i n m =
     miss : (x : ℕ) → ((d : ℕ) → d < 4 → x ≢ j + d) → get_or (put_four t j w) x 0 ≡ get_or t x 0
     miss = four_misses t j w
 
--- a p_cPU's words are no slot's
+-- a pCPU's words are no slot's
 pub leaving-same-slot : (t : List ℕ) (p : ℕ) (w : List ℕ) (i : ℕ) → i < 128 → SameSlot t (put_leaving t p w) i
 leaving-same-slot t p w i l = four-same-slot t (leaving_place p) w i (λ d k e. omega arith) (λ d k e. omega arith)
 

@@ -35,7 +35,7 @@ pub record TableOf (s : System) (ρ : Rule) (now : ℕ) (t : List ℕ) (n : ℕ)
 
 -- ---- filling it
 
--- a row of a v_cPU's record, its kind, weight and service
+-- a row of a vCPU's record, its kind, weight and service
 abbrev pub row_of : ℕ → ℕ → List ℕ → VirtualCpu → Row
 row_of kind weight service v = record { kind = kind; weight = weight; mask = v.affinity; service = service; last = v.last }
 

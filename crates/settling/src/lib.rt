@@ -1,4 +1,4 @@
-//! Between a system and the table that `moves` settles over: a v_cPU's kind and row, the set of idle
+//! Between a system and the table that `moves` settles over: a vCPU's kind and row, the set of idle
 //! pCPUs, and what a move leaves of the system. It knows no rule: whether a slot is barred, its weight
 //! and its service are handed to it.
 
