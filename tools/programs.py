@@ -234,29 +234,25 @@ def program(name):
                 build(name)
                 keep(path, standing(path, now))
     if not path.is_file():
-        raise Bad(f"there is no {path.relative_to(ROOT)}: `rt check {name}` builds it, with the toolchain in TOOLCHAIN")
+        raise Bad(f"there is no {path.relative_to(ROOT)}: `tools/build {name}` builds it, with the toolchain in TOOLCHAIN")
     return path
 
 
 def build(name):
-    """Proves and builds what has changed; a line for each such crate is enough unless something is wrong."""
+    """Proves and builds what has changed, and runs the program on no input; of what rt says nothing is shown but where it fails."""
     note = threading.Timer(5, say, [f"{name} is proved and built first, which can take some minutes"])
     note.daemon = True
     note.start()
-    lines = []
-    words = {"stdin": subprocess.DEVNULL, "stdout": subprocess.PIPE, "stderr": subprocess.STDOUT}
+    words = {"stdin": subprocess.DEVNULL, "stdout": subprocess.DEVNULL, "stderr": subprocess.PIPE}
     try:
-        with started(["rt", "check", name], cwd=ROOT, text=True, errors="replace", **words) as check:
-            for line in check.stdout:
-                if line.endswith("(unchanged since it was last proved)\n"):
-                    continue
-                lines.append(line)
-                if line.startswith("rt:") and " proved (" in line:
-                    say(line.rstrip())
+        with started(["rt", "run"], cwd=ROOT / "crates" / name, text=True, errors="replace", **words) as run:
+            lines = [line for line in run.stderr if not line.startswith(("library ", "statements "))]
     finally:
         note.cancel()
-    if check.returncode != 0:
+    if run.returncode != 0:
         raise Bad("".join(lines[-40:]) + f"{name} is not proved as its sources are now")
+    (ROOT / "target" / "bin").mkdir(parents=True, exist_ok=True)
+    shutil.copy(ROOT / "crates" / name / "out" / name, ROOT / "target" / "bin" / name)
 
 
 # ---- what a program was built from, kept beside it: where nothing has changed, nothing has to be proved
@@ -274,7 +270,8 @@ def digest(files):
 def sources():
     """Of every source and the toolchain."""
     version = subprocess.run(["rt", "version"], stdin=subprocess.DEVNULL, stdout=subprocess.PIPE).stdout.decode().strip()
-    files = sorted(path for path in (ROOT / "crates").rglob("*") if path.is_file())
+    parts = [part for part in (ROOT / "crates").glob("*/*") if part.name != "out"]
+    files = sorted(path for part in parts for path in (part, *part.rglob("*")) if path.is_file())
     return f"{digest([ROOT / 'crates.txt', *files])} {version}"
 
 

@@ -14,7 +14,7 @@ use Rattle.policy.specs.Accounting.{accounted}
 use Rattle.rules.specs.Choices.{choice}
 use Rattle.advance.specs.ServiceRule.{rule_of}
 
--- a choice by the v_cPU's ids
+-- a choice by the vCPU's ids
 abbrev pub named : Choice → Decision
 named (Run i p) = decision.Run (i / 8) (i % 8) p
 named (Preempt i p) = decision.Preempt (i / 8) (i % 8) p

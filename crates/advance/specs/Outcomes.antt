@@ -13,7 +13,7 @@ use Rattle.advance.specs.declared.Recommendation.{Recommendation}
 use Rattle.advance.specs.declared.Advanced.{Advanced}
 use Rattle.advance.specs.Advance.{NextOutcome, AdvanceResult}
 
--- a choice by the v_cPU's ids, as the code has it
+-- a choice by the vCPU's ids, as the code has it
 abbrev pub named_as : Choice → Decision
 named_as (Run i p) = decision.Run (i / 8 % 16) (i % 8) p
 named_as (Preempt i p) = decision.Preempt (i / 8 % 16) (i % 8) p

@@ -39,7 +39,7 @@ pub struct Advanced {
 
 // ---- what to do next
 
-// A v_cPU's row stored as slot i's, by its account. Of one that takes no part in a decision only that is stored.
+// A vCPU's row stored as slot i's, by its account. Of one that takes no part in a decision only that is stored.
 fn tabulate(
     table: &mut [u32; moves::TABLE],
     i: usize,
@@ -66,7 +66,7 @@ fn tabulate(
     }
 }
 
-// A choice by the v_cPU's ids. % 16 keeps the casts in range without a precondition.
+// A choice by the vCPU's ids. % 16 keeps the casts in range without a precondition.
 fn named(c: Choice) -> Decision
     ensures { result ≡ named_as c }
 {

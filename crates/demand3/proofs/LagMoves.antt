@@ -26,7 +26,8 @@ use Rattle.policy.specs.Accounts.{offset_of}
 use Rattle.policy.specs.Standing.{weight_at}
 use Rattle.rules.specs.Choices.{choice}
 use Rattle.rules.specs.Due.{chosen}
-use Rattle.rules.specs.ChoiceLaws.{CanPreempt, choice-least, choice-beaten, choice-unbeaten}
+use Rattle.rules.specs.ChoiceLaws.{CanPreempt}
+use Rattle.rules.proofs.ChoiceLaws.{choice-least, choice-beaten, choice-unbeaten}
 use Rattle.rules.proofs.Laws.{run-wrote, run-keeps, preempt-wrote, preempt-keeps, Trace, rest, run, preempt}
 use Rattle.policy.specs.Exact.{weight_pos}
 use Rattle.demand3.proofs.ExactRanking.{raw_service, Level, level_ranks, beats-before, beats-not}

@@ -1,4 +1,4 @@
--- A call that is refused for its v_cPU's state tells that state, as `state_of` reads it before the call: of every request and every
+-- A call that is refused for its vCPU's state tells that state, as `state_of` reads it before the call: of every request and every
 -- system, damaged or not. Assumes nothing.
 use Rattle.std.specs.Prelude.{ℕ, Bool, true, false, ◌≡◌, refl, ltb}
 use Rattle.std.proofs.Math.Path.{subst}

@@ -1,4 +1,4 @@
--- What a request at clock c does to its v_cPU's record leaves how long the vCPU has run up to c as it was. Assumes nothing.
+-- What a request at clock c does to its vCPU's record leaves how long the vCPU has run up to c as it was. Assumes nothing.
 use Prim.Native.Nat.{ℕ, ◌+◌, ◌-◌, ◌^◌, ◌≤◌, ◌<◌, min}
 use mathlib.Core.Bool.{Bool, true, false, cond}
 use mathlib.Core.Path.{◌≡◌, refl, sym, ap, subst}

@@ -73,7 +73,7 @@ turn c =
     let e = l.before.before in
     next-turn l.loop.invariant.0 (tables e.before.before) (sound e) (domain_in l.before) (vcpu_in c)
 
--- the index of the v_cPU's pCPU is in the table
+-- the index of the vCPU's pCPU is in the table
 pcpu_in : tie.Need-element-copy-out-c invariant-loop decreases-loop
 unfolding vcpu_at
 pcpu_in c =

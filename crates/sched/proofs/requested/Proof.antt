@@ -21,7 +21,7 @@ invariant-loop dom vcpu request s d k m sound₀ n running₀ i₀ sound running
 abbrev decreases-loop : tie.decreases-loop
 decreases-loop dom vcpu request s d k m sound₀ n running₀ i₀ sound running i = n - i
 
--- the index of the v_cPU's pCPU is in the table
+-- the index of the vCPU's pCPU is in the table
 index_in : tie.Need-element-copy-out-c invariant-loop decreases-loop
 unfolding vcpu_at
 index_in c =

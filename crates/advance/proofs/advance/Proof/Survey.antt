@@ -28,7 +28,7 @@ loop_holds c =
     let a = c.before.before.args in
     (testing_starts a.t1 _ c.within_sizes.ensures, seen-starts a.t1 a.t2 a.now _, zero-le)
 
--- the index of a v_cPU's pCPU is in the table
+-- the index of a vCPU's pCPU is in the table
 pub index_in : With tie.Need-element-copy-out-c
 unfolding vcpu_at
 index_in c =
