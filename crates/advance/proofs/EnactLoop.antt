@@ -1,11 +1,9 @@
 -- The log enacted: what is left of it leads from the system so far to the one that all its moves leave. Assumes nothing.
-use Prim.Native.Nat.{ℕ, suc, ◌+◌, ◌-◌, ◌/◌, ◌%◌, ◌<◌, ◌≤◌}
-use mathlib.Core.Bool.{Bool, true, false, cond}
-use mathlib.Core.Path.{◌≡◌, sym, ◌∙◌, ap, subst}
+use Prim.Native.Nat.{ℕ, suc, ◌+◌, ◌-◌, ◌<◌, ◌≤◌}
+use mathlib.Core.Path.{◌≡◌, sym, ◌∙◌, ap}
 use mathlib.Core.List.{List}
 use native.Mathlib.Numerals.{add-one}
 use native.Mathlib.Omega.{arith}
-use lib.Dec.{ltb}
 use lib.ListN.{get_or}
 use Rattle.system.specs.declared.VirtualCpu.{VirtualCpu}
 use Rattle.system.specs.declared.Occupant.{Occupant}
@@ -13,25 +11,9 @@ use Rattle.system.specs.declared.System.{System}
 use Rattle.system.specs.Reads.{vcpu_at}
 use Rattle.system.specs.Writes.{put_vcpu, put_occupant}
 use Rattle.moves.specs.declared.Choice.{Choice}
-use Rattle.moves.specs.declared.Choice.TheVariants.{Run, Preempt}
 use Rattle.moves.specs.Settling.{logged, logged_from}
 use Rattle.rules.specs.Settle.{slot_in, onto_in}
 use Rattle.settling.specs.AfterMoves.{record_after, occupant_after, moved, after_moves}
-
--- a move of the log is of a slot and a pCPU of the tables
-pub logged-slot : (c : Choice) (x : ℕ) → c ≡ logged x → slot_in c < 128
-logged-slot c x e = subst (λ (d : Choice). slot_in d < 128) (sym e) (go (ltb (x % 128) 64))
-  where
-    go : (b : Bool) → slot_in (cond b (Run (x / 128 % 128) (x % 64)) (Preempt (x / 128 % 128) (x % 64))) < 128
-    go true = omega arith
-    go false = omega arith
-
-pub logged-pcpu : (c : Choice) (x : ℕ) → c ≡ logged x → onto_in c < 64
-logged-pcpu c x e = subst (λ (d : Choice). onto_in d < 64) (sym e) (go (ltb (x % 128) 64))
-  where
-    go : (b : Bool) → onto_in (cond b (Run (x / 128 % 128) (x % 64)) (Preempt (x / 128 % 128) (x % 64))) < 64
-    go true = omega arith
-    go false = omega arith
 
 -- what the code stores of a move c is the system after it
 pub stores-move : (s : System) (now : ℕ) (c : Choice) {i p : ℕ} {v : VirtualCpu} {o : Occupant} → i ≡ slot_in c → p ≡ onto_in c
@@ -42,10 +24,6 @@ stores-move s now c a b d e = rw (d, e, a, b)
 pub record Enacting (s₀ : System) (now : ℕ) (log : List ℕ) (n i : ℕ) (s : System) : Type 0 where
   pub leads : after_moves s now (logged_from log i (n - i)) ≡ after_moves s₀ now (logged_from log 0 n)
   pub within : i ≤ n
-
-pub enacting_starts : (s₀ : System) (now : ℕ) (log : List ℕ) (n : ℕ) → Enacting s₀ now log n 0 s₀
-enacting_starts s₀ now log n =
-    record { leads = ap (λ (m : ℕ). after_moves s₀ now (logged_from log 0 m)) (omega arith); within = omega arith }
 
 module _ {s₀ s : System} {now n i : ℕ} {log : List ℕ} (E : Enacting s₀ now log n i s) where
   pub enacting_next : i < n → {t : System} → t ≡ moved s now (logged (get_or log i 0)) → Enacting s₀ now log n (i + 1) t

@@ -9,5 +9,6 @@ mod Forgetting
 mod ServiceSteady
 mod ServiceRows
 mod EnactLoop
+mod SettleLoop
 mod RunTimes
 pub mod LastSlots
