@@ -11,7 +11,7 @@ use mathlib.Core.Path.{◌≡◌, refl, sym, subst}
 use mathlib.Core.List.{List, [], ◌∷◌}
 use Prim.Native.Nat.{ℕ, ◌<◌, ◌^◌}
 use seplogic.Ra.Ura.{Ura}
-use mir.Syntax.{Name, Place, Body, Fn, Opd as Operand, seq, call, w64}
+use mir.Syntax.{Callee, Place, Body, Fn, Opd as Operand, seq, call, w64}
 use mir.Val.{Val, vint}
 use base.Logic.{SProp, ent, emp, sep, via, id⊢, emp∗, mono_r, fst∗, snd∗, ex_e}
 use base.Fml.{ftrue}
@@ -90,7 +90,7 @@ module _ {M : Type 1} {𝓤 : Ura M} {𝓛 : Logic 𝓤} {K : Type 0} {Γ : List
   number t n fits = owned t (UInt w64) (Is (UInt w64)) (uint_Makes 𝓛 w64) n (vint w64 n ∷ []) (refl, fits)
 
 -- ---- a call
-module _ {M : Type 1} {𝓤 : Ura M} {𝓛 : Logic 𝓤} {Γ : List (Item 𝓤)} {E : Env 𝓤 𝓛.H} {C : Calls 𝓤 𝓛.H} {Λ : Loops 𝓤 𝓛.H} {p : Post 𝓤 𝓛.H} {f : Name} {xs : List Operand} {d : Place} {rest : Body} where
+module _ {M : Type 1} {𝓤 : Ura M} {𝓛 : Logic 𝓤} {Γ : List (Item 𝓤)} {E : Env 𝓤 𝓛.H} {C : Calls 𝓤 𝓛.H} {Λ : Loops 𝓤 𝓛.H} {p : Post 𝓤 𝓛.H} {f : Callee} {xs : List Operand} {d : Place} {rest : Body} where
   open 𝓛 use {H}
 
   pub calls-told : Go {0} → FmC 𝓤 H 𝓛.laws C → (T : Ended) (c : Clauses 𝓤 T) → Triple 𝓤 (C f) (triple_of 𝓛 T.signature (closing 𝓛 T c))
@@ -129,7 +129,7 @@ module _ {M : Type 1} {𝓤 : Ura M} (𝓛 : Logic 𝓤) (𝓜 : Model 𝓤 𝓛
   S = T.signature
 
   -- how the parameters are spelt in machine values, that they can only be spelt so, and a walk of e that ends with hs prove f
-  abbrev ByWalk : Stays S.params T.kept → Name → Fn → Type 2
+  abbrev ByWalk : Stays S.params T.kept → Callee → Fn → Type 2
   ByWalk hs f e =
       (sp : (κs : Lfts S.lifetimes) → Spells (types_at S.params κs)) → ((κs : Lfts S.lifetimes) → Tellss (types_at S.params κs) (Ises (types_at S.params κs)) (sp κs))
       → (FmC 𝓤 H 𝓛.laws (tables 𝓤 H 𝓜 𝓡 γ).C
@@ -139,7 +139,7 @@ module _ {M : Type 1} {𝓤 : Ura M} (𝓛 : Logic 𝓤) (𝓜 : Model 𝓤 𝓛
       (WpFn 𝓤 H (tables 𝓤 H 𝓜 𝓡 γ).C (tables 𝓤 H 𝓜 𝓡 γ).Λ e (flat (types_at S.params κs) (valss (types_at S.params κs) (sp κs) a)) ((walk_of 𝓛 T hs c).post ((κs, qs, bounds, a, valss (types_at S.params κs) (sp κs) a), g))))
       → Meets 𝓛 S ((tables 𝓤 H 𝓜 𝓡 γ).C f) (closing 𝓛 T c)
 
-  pub proves-with : (hs : Stays S.params T.kept) (f : Name) (e : Fn) → Closed 𝓤 H (tables 𝓤 H 𝓜 𝓡 γ).C (tables 𝓤 H 𝓜 𝓡 γ).Λ f e → AllGo 𝓛 S.lifetimes S.params T.kept hs → ByWalk hs f e
+  pub proves-with : (hs : Stays S.params T.kept) (f : Callee) (e : Fn) → Closed 𝓤 H (tables 𝓤 H 𝓜 𝓡 γ).C (tables 𝓤 H 𝓜 𝓡 γ).Λ f e → AllGo 𝓛 S.lifetimes S.params T.kept hs → ByWalk hs f e
   unfolding tables_of
   proves-with hs f e closed go sp tl walk =
       let run = WpFn 𝓤 H (tables 𝓤 H 𝓜 𝓡 γ).C (tables 𝓤 H 𝓜 𝓡 γ).Λ e in
@@ -148,5 +148,5 @@ module _ {M : Type 1} {𝓤 : Ura M} (𝓛 : Logic 𝓤) (𝓜 : Model 𝓤 𝓛
       (walk_Meets 𝓛 T hs go c run (WpFn-mono 𝓤 H 𝓛.laws 𝓣 e)
       (walked 𝓛 T hs c run sp tl (λ κs qs bounds a g are. via 𝓤 _ (fst∗ 𝓤 _ ((c κs a).requires g)) (walk (fm_of 𝓤 H 𝓛.laws 𝓣) κs qs bounds a g are))))
 
-  pub proves : (f : Name) (e : Fn) → Closed 𝓤 H (tables 𝓤 H 𝓜 𝓡 γ).C (tables 𝓤 H 𝓜 𝓡 γ).Λ f e → Silent S.params T.kept → ByWalk (dropped S.params T.kept) f e
+  pub proves : (f : Callee) (e : Fn) → Closed 𝓤 H (tables 𝓤 H 𝓜 𝓡 γ).C (tables 𝓤 H 𝓜 𝓡 γ).Λ f e → Silent S.params T.kept → ByWalk (dropped S.params T.kept) f e
   proves f e closed silent = proves-with (dropped S.params T.kept) f e closed (all_go 𝓛 S.params T.kept silent)
