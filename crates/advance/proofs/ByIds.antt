@@ -23,7 +23,8 @@ use Rattle.policy.specs.declared.Scheduler.{Scheduler}
 use Rattle.policy.specs.Accounts.{weight_of}
 use Rattle.policy.specs.Standing.{weight_at, service_at}
 use Rattle.policy.specs.Exact.{Unheld}
-use Rattle.rules.specs.ChoiceLaws.{Placeable, choice-preempt}
+use Rattle.rules.specs.ChoiceLaws.{Placeable}
+use Rattle.rules.proofs.ChoiceLaws.{choice-preempt}
 use Rattle.advance.specs.Least.{run-least, run-earliest}
 use Rattle.advance.specs.ServiceRule.{rule_of}
 use Rattle.advance.specs.ByIds.{PreemptsThere, MayGo, service_of, NoneHeld, RunsTheLeast}

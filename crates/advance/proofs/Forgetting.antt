@@ -31,7 +31,7 @@ use Rattle.moves.specs.BackToLast.{placed_back}
 use Rattle.policy.specs.declared.Scheduler.{Scheduler}
 use Rattle.policy.specs.Standing.{service_by, service_at, weight_at}
 use Rattle.rules.specs.Choices.{is_expired, standings, choice, choice_by_lowest}
-use Rattle.rules.specs.ChoiceLaws.{choice-by-lowest}
+use Rattle.rules.proofs.ChoiceLaws.{choice-by-lowest}
 use Rattle.advance.specs.Advance.{named, recommended, next}
 use Rattle.advance.specs.BackToLast.{without_last, without_lasts, anywhere, AlikeAnywhere, NextForgets}
 use Rattle.advance.specs.ServiceRule.{rule_of}

@@ -25,7 +25,7 @@ use Rattle.rules.specs.Choices.{choice}
 use Rattle.advance.specs.Advance.{named, recommended, next}
 use Rattle.advance.specs.BackToLast.{RunPlaced}
 use Rattle.advance.specs.ByIds.{RunAccepted, PreemptAccepted}
-use Rattle.rules.specs.ChoiceLaws.{choice-run, choice-back, choice-lowest, choice-preempt}
+use Rattle.rules.proofs.ChoiceLaws.{choice-run, choice-back, choice-lowest, choice-preempt}
 use Rattle.rules.proofs.Laws.{run-enacted, preempt-enacted}
 use Rattle.advance.specs.ServiceRule.{rule_of}
 

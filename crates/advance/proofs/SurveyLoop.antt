@@ -23,7 +23,7 @@ use Rattle.policy.specs.declared.Scheduler.{Scheduler}
 use Rattle.policy.proofs.Laws.{zeros}
 use Rattle.rules.specs.Rules.{Rule}
 use Rattle.rules.specs.Choices.{is_expired, choice}
-use Rattle.rules.specs.ChoiceLaws.{choice-run, choice-preempt, choice-beaten}
+use Rattle.rules.proofs.ChoiceLaws.{choice-run, choice-preempt, choice-beaten}
 use Rattle.advance.specs.declared.Survey.{Survey}
 use Rattle.settling.specs.IdleSet.{idle_set}
 use Rattle.advance.specs.Survey.{survey_with, may_move}

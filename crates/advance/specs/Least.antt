@@ -19,8 +19,9 @@ use Rattle.policy.specs.Accounts.{account_at, account_of, put_account, fresh_pol
 use Rattle.policy.specs.Standing.{weight_at, service_by, service_at, deserves}
 use Rattle.policy.specs.Exact.{Unheld, before, not-before, unheld-ranks}
 use Rattle.rules.specs.Choices.{choice}
-use Rattle.rules.specs.ChoiceLaws.{CanPreempt, Rival, Placeable, Preemptible, choice-run, choice-preempt, choice-beaten}
-use Rattle.rules.specs.ChoiceLaws.{choice-least, choice-earliest, choice_worst, choice_worst_earliest}
+use Rattle.rules.specs.ChoiceLaws.{CanPreempt, Rival, Placeable, Preemptible}
+use Rattle.rules.proofs.ChoiceLaws.{choice-run, choice-preempt, choice-beaten}
+use Rattle.rules.proofs.ChoiceLaws.{choice-least, choice-earliest, choice_worst, choice_worst_earliest}
 use Rattle.advance.specs.ServiceRule.{rule_of}
 
 module _ (s : System) (π : Scheduler) (now : ℕ) (U : Unheld s π now (Placeable s (rule_of π) now)) (i p j q : ℕ)

@@ -22,8 +22,7 @@ use Rattle.moves.specs.BackToLast.{placed_back, decide-by-lowest}
 use Rattle.moves.specs.DecideLaws.{placement-last, placement-lowest, pick-least, pick-earliest, victim_worst, victim-earliest}
 use Rattle.rules.specs.Rules.{Rule, beats}
 use Rattle.rules.specs.Choices.{is_expired, standings, choice, choice_by_lowest}
-use Rattle.rules.specs.ChoiceLaws.{CanPreempt, Rival, Placeable, Preemptible}
-use Rattle.rules.proofs.ChoiceLaws.{Waits}
+use Rattle.rules.specs.ChoiceLaws.{CanPreempt, Rival, Placeable, Preemptible, Waits}
 
 -- ---- what the standings say, in these terms
 

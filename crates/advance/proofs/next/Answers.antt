@@ -11,7 +11,7 @@ use Rattle.moves.specs.Decide.{decide}
 use Rattle.moves.specs.Table.{tabled}
 use Rattle.rules.specs.Rules.{Rule}
 use Rattle.rules.specs.Choices.{choice}
-use Rattle.rules.specs.ChoiceLaws.{choice-run, choice-preempt}
+use Rattle.rules.proofs.ChoiceLaws.{choice-run, choice-preempt}
 use Rattle.settling.specs.TableOf.{TableOf}
 use Rattle.settling.proofs.Laws.{decided-choice, idle-set-is}
 use Rattle.policy.proofs.Laws.{Tabled}
