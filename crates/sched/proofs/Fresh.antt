@@ -11,7 +11,7 @@ use Rattle.system.specs.declared.PhysicalCpu.{PhysicalCpu}
 use Rattle.system.specs.Shape.{no_vcpu, idle, blank, fresh}
 use Rattle.system.specs.Reads.{vcpu_at, occupant_at}
 use Rattle.system.specs.Writes.{Tables}
-use Rattle.system.specs.Slots.{pcpus, slot-below}
+use Rattle.system.specs.Slots.{slot-below}
 use Rattle.verdict.specs.Sound.{Sound}
 
 pub fresh-tables : (d v p : ℕ) → Tables (fresh d v p)

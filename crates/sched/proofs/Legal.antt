@@ -15,9 +15,9 @@ use Rattle.system.specs.declared.Answer.{Answer}
 use Rattle.system.specs.declared.Answer.TheVariants.{PcpuBusy}
 use Rattle.system.specs.Answers.{SystemOutcome}
 use Rattle.system.specs.Records.{elapsed}
-use Rattle.system.specs.Reads.{vcpu_at, occupant_at, is_idle, state_at, admits}
+use Rattle.system.specs.Reads.{vcpu_at, occupant_at, is_idle, state_at}
 use Rattle.system.specs.Writes.{Tables, Wrote, same-pcpus, present-back, present-on}
-use Rattle.system.specs.Slots.{domains, vcpus, pcpus, slot, Present, slot_of}
+use Rattle.system.specs.Slots.{pcpus, slot, Present, slot_of}
 use Rattle.verdict.specs.Sound.{OnPcpu, Occupies, Sound}
 use Rattle.changes.specs.declared.Change.{Change}
 use Rattle.changes.specs.declared.Change.TheVariants.{Refuse, Write, Enter, Leave}

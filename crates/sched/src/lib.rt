@@ -44,6 +44,7 @@ pub struct Frame {
 }
 
 /// What a request of vCPU dom/vcpu tells, and what it leaves of the records that it reads.
+#[tactic(auto, unfolding(crate::specs::RequestInPlace::effect_of))]
 pub fn effect_of(
     frame: Frame,
     dom: DomId,
