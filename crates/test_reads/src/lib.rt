@@ -161,10 +161,10 @@ fn move_numbers(s: System, p: Scheduler, clock: Ticks) -> [u64; 8]
 // ---- as lines
 
 fn put_numbers(out: &mut [u8], at: usize, numbers: &[u64]) -> usize
-    requires numbers_len_bound { length numbers.now ≤ 9 }
-    requires numbers_in_bounds { at + (length numbers.now * 21 + 1) ≤ length out.old }
+    requires few { length numbers.now ≤ 9 }
+    requires fits { at + (length numbers.now * 21 + 1) ≤ length out.old }
     ensures placed { Placed out.old at (numbers_line numbers.now) out.new result }
-    ensures upper_bound { result ≤ at + (length numbers.now * 21 + 1) }
+    ensures within { result ≤ at + (length numbers.now * 21 + 1) }
 {
     let line = text::numbers_line(numbers);
     text::append(out, at, line)
