@@ -1,4 +1,4 @@
--- After i turns of its loops it is known whether one of the first i slots joined, `best` leads them, and their accounts are renewed.
+-- After i turns of its loops it is known whether one of the first i slots joined, `best` leads them, and their accounts are renewed. Assumes nothing.
 use Rattle.std.proofs.Common.{◌≡◌, ◌-◌, ◌≤◌}
 use Rattle.policy.specs.Accounting.{renew_first}
 use Rattle.policy.specs.OneAccount.{some_join, ShareOf}

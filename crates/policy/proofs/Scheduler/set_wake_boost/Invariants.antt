@@ -1,4 +1,4 @@
--- After i turns of the loop of `policy::Scheduler::set_wake_boost` the first i offsets are cleared.
+-- After i turns of the loop of `policy::Scheduler::set_wake_boost` the first i offsets are cleared. Assumes nothing.
 use Rattle.std.proofs.Common.{◌≡◌, ◌-◌, ◌≤◌}
 use Rattle.policy.proofs.ClearLoop.{cleared_to}
 use Rattle.policy.proofs.Scheduler.set_wake_boost.Given as goal
