@@ -1,4 +1,4 @@
--- After q turns of the loop of `settling::idle_set` the set has the idle pCPUs below q.
+-- After q turns of the loop of `settling::idle_set` the set has the idle pCPUs below q. Assumes nothing.
 use Rattle.std.proofs.Common.{◌≡◌, ◌-◌, ◌≤◌}
 use Rattle.masks.specs.Sets.{set_of}
 use Rattle.settling.specs.IdleSet.{idle_in}
