@@ -6,6 +6,7 @@
 
 use load_script::Load;
 use records::Shape;
+use std::env::{Env, FillError};
 use system::Answer;
 use text::MaybeNumber;
 
@@ -28,36 +29,53 @@ struct Arguments {
 
 // ---- words
 
-fn misused() {
-    streams::say(b"usage: load SEED DOMAINS VCPUS PCPUS SLICE COUNT > SCRIPT\n");
+fn misused(rt: &HostRuntime) {
+    streams::say(
+        rt,
+        b"usage: load SEED DOMAINS VCPUS PCPUS SLICE COUNT > SCRIPT\n",
+    );
 }
 
 // Argument i is not what the form has there.
-fn misused_at(i: usize) {
-    misused();
+fn misused_at(rt: &HostRuntime, i: usize) {
+    misused(rt);
     match i {
-        1 => streams::say(b"load: SEED is not a number below 2^64\n"),
-        2 => streams::say(b"load: DOMAINS is not a number below 2^64\n"),
-        3 => streams::say(b"load: VCPUS is not a number below 2^64\n"),
-        4 => streams::say(b"load: PCPUS is not a number below 2^64\n"),
-        5 => streams::say(b"load: SLICE is not a number below 2^64\n"),
-        _ => streams::say(b"load: COUNT is not a number below 2^32\n"),
+        1 => streams::say(rt, b"load: SEED is not a number below 2^64\n"),
+        2 => streams::say(rt, b"load: DOMAINS is not a number below 2^64\n"),
+        3 => streams::say(rt, b"load: VCPUS is not a number below 2^64\n"),
+        4 => streams::say(rt, b"load: PCPUS is not a number below 2^64\n"),
+        5 => streams::say(rt, b"load: SLICE is not a number below 2^64\n"),
+        _ => streams::say(rt, b"load: COUNT is not a number below 2^32\n"),
     }
 }
 
-fn refused(answer: Answer) {
+fn refused(rt: &HostRuntime, answer: Answer) {
     if system::number_of(answer) == system::number_of(Answer::BadSeed) {
-        streams::say(b"15 BadSeed: a load's seed is zero\n");
+        streams::say(rt, b"15 BadSeed: a load's seed is zero\n");
     } else {
-        streams::say(b"7 TooLarge: a host has at most 16 domains, 8 vCPUs in each, 64 pCPUs\n");
+        streams::say(
+            rt,
+            b"7 TooLarge: a host has at most 16 domains, 8 vCPUs in each, 64 pCPUs\n",
+        );
     }
 }
 
 // ---- arguments
 
-fn argument(i: usize) -> Said {
+// How many there are before `most`, the program's own name among them.
+fn argument_count(rt: &HostRuntime, most: usize) -> usize {
+    let mut word = [0u8; 1];
+    for i in 0..most {
+        if matches!(rt.arg(i, &mut word), Err(FillError::NotPresent)) {
+            return i;
+        }
+    }
+    most
+}
+
+fn argument(rt: &HostRuntime, i: usize) -> Said {
     let mut word = [0u8; 32];
-    let n = os::arg(i, &mut word);
+    let n = rt.arg(i, &mut word).unwrap_or(0);
     let said = text::number_in(&word[..n]);
     match said {
         MaybeNumber::None => Said {
@@ -76,12 +94,12 @@ fn first_bad(bad: usize, i: usize, good: bool) -> usize {
     if bad == 0 { i } else { bad }
 }
 
-fn asked() -> Arguments {
+fn asked(rt: &HostRuntime) -> Arguments {
     let mut numbers = [0u64; NUMBERS];
     let mut bad: usize = 0;
     let mut i: usize = 0;
     while i < NUMBERS {
-        let said = argument(i + 1);
+        let said = argument(rt, i + 1);
         numbers[i] = said.number;
         bad = first_bad(bad, i + 1, said.good);
         i += 1;
@@ -92,48 +110,48 @@ fn asked() -> Arguments {
 // ---- the script
 
 // Whether all of it was written.
-fn put(bytes: &[u8]) -> bool {
-    streams::put(bytes, b"load: standard output takes no more\n")
+fn put(rt: &HostRuntime, bytes: &[u8]) -> bool {
+    streams::put(rt, bytes, b"load: standard output takes no more\n")
 }
 
 // Writes the records of the load, 3000 at a time.
-fn put_script(load: Load) {
+fn put_script(rt: &HostRuntime, load: Load) {
     let mut out = [0u8; 60000];
     let mut l = load;
     while load_script::records_left(l) > 0 {
         let filled = load_script::fill(l, &mut out);
         let n = filled.written;
-        if !put(&out[..n]) {
+        if !put(rt, &out[..n]) {
             return;
         }
         l = filled.load;
     }
 }
 
-fn make(seed: u64, shape: Shape, count: u32) {
+fn make(rt: &HostRuntime, seed: u64, shape: Shape, count: u32) {
     let opened = load_script::open(seed, shape, count);
     let answer = opened.answer;
     if system::number_of(answer) == system::number_of(Answer::Done) {
-        put_script(opened.load);
+        put_script(rt, opened.load);
     } else {
-        refused(answer);
+        refused(rt, answer);
     }
 }
 
-fn main() {
-    if os::arg_count() != NUMBERS + 1 {
-        misused();
+fn main(rt: HostRuntime) {
+    if argument_count(&rt, NUMBERS + 2) != NUMBERS + 1 {
+        misused(&rt);
         return;
     }
-    let asked = asked();
+    let asked = asked(&rt);
     if asked.bad > 0 {
-        misused_at(asked.bad);
+        misused_at(&rt, asked.bad);
         return;
     }
     let numbers = asked.numbers;
     let count = numbers[5];
     if count > 0xFFFF_FFFF {
-        misused_at(NUMBERS);
+        misused_at(&rt, NUMBERS);
         return;
     }
     let shape = Shape {
@@ -142,5 +160,5 @@ fn main() {
         num_pcpus: numbers[3] as usize,
         quantum: numbers[4],
     };
-    make(numbers[0], shape, count as u32);
+    make(&rt, numbers[0], shape, count as u32);
 }
