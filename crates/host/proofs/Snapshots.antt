@@ -24,7 +24,7 @@ weighed : (π : Scheduler) → policy.Tabled π → (d v w : ℕ) → SameSnapsh
 weighed π L d v w =
     let r = policy.set-weighed π L d v w in
     record {
-      tabled = policy.set_weight-tabled π L d v w;
+      tabled = policy.set-weight-tabled π L d v w;
       shape = λ e u. rw (r.same.domains, r.same.vcpus);
       snapshot = λ i. r.snapshot (i / 8) (i % 8);
     }

@@ -103,6 +103,7 @@ impl Host {
 }
 
 /// One call. Whatever call it is handed fits its types.
+#[tactic(auto, unfolding(crate::specs::Step::step))]
 pub fn step(h: Host, call: Call) -> Outcome
     ensures result_value { host_outcome result ≡ step_counted (step h call) }
     ensures typed { Typed call }
