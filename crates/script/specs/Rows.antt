@@ -5,7 +5,7 @@ use Rattle.records.specs.Bytes.{bytes_of}
 use Rattle.text.specs.Ascii.{ascii}
 use Rattle.script.specs.Computing.{replaying}
 use Rattle.host_text.specs.HostText.{host_text}
-use Rattle.script.specs.NoCall.{built_at, no_call_at}
+use Rattle.script.specs.NoCall.{no_call_at}
 use Rattle.script.specs.Script.{begun, script_after, text, records_in}
 
 -- the bytes of some records
@@ -57,10 +57,6 @@ told =
     ∷ rows (replayed (all (build 1 1 1 ∷ admit ∷ build 1 1 1 ∷ admit ∷ []))) (ascii "1 0 0\n2 0 0\n3 0 0\n4 0 0\n")
     ∷ []
 
-pub told-due : AllDue told
-unfolding replaying
-told-due = refl
-
 -- of the first n records, 1 for one that is no call
 abbrev flags : Bool → List ℕ → ℕ → List ℕ
 flags b bs zero = []
@@ -83,10 +79,6 @@ no_calls =
     ∷ rows (flags false (ascii "build 1 domain 1 vcpu 1 pcpu slice 10\n") 2) (1 ∷ 1 ∷ [])
     ∷ rows (flags false (ascii "USGE" ++ (0 ∷ 0 ∷ [])) 1) (1 ∷ [])
     ∷ []
-
-pub no_calls-due : AllDue no_calls
-unfolding replaying built_at
-no_calls-due = refl
 
 -- 0/0 is Offline; 0/1 waits, with mask 2 and weight 7; 0/2 runs on pCPU 1 since 100; 0/3 ran from 3 to 8 and is blocked
 abbrev four : List ℕ
