@@ -25,7 +25,8 @@ use Rattle.text.specs.Lines as lines
 use Rattle.host_text.specs.HostText as hosts
 use Rattle.script.specs.Script as script
 use Rattle.script.specs.Script.{carried, built_after, Replayed}
-use Rattle.script.specs.Example.{example, example-records, example-text}
+use Rattle.script.specs.Example.{example, example-records}
+use Rattle.script.proofs.Example.{example-text}
 use Rattle.text.specs.Ascii.{ascii}
 use Rattle.big_endian.specs.Numbers as numbers
 use Rattle.page.specs.Page.{times, new_system, new_policy}
