@@ -1,5 +1,5 @@
 -- `examine::examined` meets its contract. Assumes nothing.
-use Rattle.std.proofs.Common.{◌≡◌, ℕ, ◌+◌, ◌%◌, ◌^◌, ◌≤◌, Bool, ◌||◌, eqb, List, length, drop, refl, ap, ◌∙◌, ap₂, zero-le, arith, length-append, rules}
+use Rattle.std.proofs.Common.{◌≡◌, ℕ, ◌+◌, ◌%◌, ◌^◌, ◌≤◌, Bool, ◌||◌, eqb, List, length, drop, refl, ap, ◌∙◌, ap₂, zero-le, arith, length-append}
 use Rattle.system.specs.Answers.{told}
 use Rattle.host.specs.declared.Host.{Host}
 use Rattle.host.specs.declared.Outcome.{Outcome}
@@ -11,8 +11,7 @@ use Rattle.text.specs.Lines.{answer_line}
 use Rattle.text.specs.Places.{Placed, placed-then, placed_as}
 use Rattle.records.specs.Records.{record_at}
 use Rattle.examine.specs.Examine.{answered, answered_by, after, host_shown, text}
-use Rattle.examine.proofs.examined.Statement.{statement}
-use Rattle.examine.proofs.examined.Tie as tie
+use Rattle.examine.proofs.examined.Goals as goal
 
 -- what was found of the record at the start of bs
 module _ (c : Script) (bs : List ℕ) (r : Record) (x : Outcome) {n t : ℕ} {b : Bool} (d : r ≡ record_at bs)
@@ -47,37 +46,15 @@ module _ (c : Script) (bs : List ℕ) (r : Record) (x : Outcome) {n t : ℕ} {b 
 within : {before t out : List ℕ} {end : ℕ} → Placed before 0 t out end → end ≤ length out
 within {before} {t} p = omega (arith, ap length p.bytes, p.past, length-append t (drop (0 + length t) before))
 
-returns : tie.Need-returns
+pub returns : goal.returns
 returns c =
-    let host = c.before.before in
-    let line = host.before.before.before.before in
-    let counted = line.before.before in
-    let known = counted.before in
-    let answer = known.before in
-    let outcome = answer.before.before in
-    let read = outcome.before.before in
-    let a = read.before.before.before.args in
+    let a = c.args in
     let bs = a.bytes.now in
-    let r = read.record_at.result in
-    let x = outcome.answered.result in
-    let d = read.record_at.ensures in
-    let e = outcome.answered.ensures in
-    let f = answer.number_of_lem.ensures in
-    let g = counted.wrapping_add_u64.ensures in
-    let k = known.is_built.ensures in
-    let there = placed a.s bs r x d e f g k line.put_answer.ensures.0 host.put_host.ensures in
-    record { script = script a.s bs r x d e f g k; placed = there; whole = within there }
-
-pub examined_spec : {M : Type 1} → statement M
-examined_spec =
-    tie.close
-    (tie.spec
-    (λ c κs. search rules)
-    (λ c κs. search rules)
-    (λ c κs. search rules)
-    (λ c κs. search rules)
-    (λ c κs. search rules)
-    (λ c κs. search rules)
-    (λ c κs. search rules)
-    (λ c. search rules)
-    returns)
+    let r = c.record_at-r.result in
+    let x = c.answered-x.result in
+    let d = c.record_at-r.ensures in
+    let e = c.answered-x.ensures in
+    let f = c.number_of-told.ensures in
+    let k = c.is_built-built.ensures in
+    let there = placed a.s bs r x d e f refl k c.put_answer-line.ensures.placed c.put_host-written.ensures in
+    record { script = script a.s bs r x d e f refl k; placed = there; whole = within there }
