@@ -33,8 +33,8 @@ fn rounds_of(mut s: System, mut p: Scheduler, rounds: u64) -> u64 {
         let r = advance::advance(s, p, now);
         s = r.system;
         p = r.scheduler;
-        moves = std::num::wrapping_add_u64(moves, r.count as u64);
-        now = std::num::wrapping_add_u64(now, 7);
+        moves = moves.wrapping_add(r.count as u64);
+        now = now.wrapping_add(7);
         k += 1;
     }
     moves

@@ -7,6 +7,8 @@
 
 #![tactic(auto)]
 
+use std::io::Print;
+
 mod advances;
 mod transitions;
 mod usage_files;
@@ -21,24 +23,24 @@ fn made(kind: u8, rounds: u64, num_domains: u8, vcpus: u8, pcpus: u8) -> u64 {
 }
 
 // One order; false where there is none left.
-fn obeyed() -> bool {
+fn obeyed(rt: &HostRuntime) -> bool {
     let mut b = [0u8; 8];
-    let got = io::read_full(libc::STDIN_FILENO, &mut b);
-    if got < 8 {
+    let got = streams::read(rt, &mut b);
+    if got.bytes < 8 {
         return false;
     }
     let rounds = big_endian::word(b[1], b[2], b[3], b[4]) as u64;
     let count = made(b[0], rounds, b[5], b[6], b[7]);
-    io::print_decimal(libc::STDOUT_FILENO, count);
-    io::write_all(libc::STDOUT_FILENO, b"\n");
+    // what is not taken is missed by whoever reads it
+    let _ = rt.stdout().println(count);
     true
 }
 
-fn main() {
+fn main(rt: HostRuntime) {
     // a proved loop has to end, and nothing says that the input does
     let mut turns = u64::MAX;
     while turns > 0 {
-        let more = obeyed();
+        let more = obeyed(&rt);
         if !more {
             return;
         }

@@ -33,7 +33,7 @@ fn rounds_of(mut s: System, rounds: u64) -> u64 {
         let dispatched = sched::run(s, 0, 0, 0, k);
         s = dispatched.system;
         let answer = dispatched.answer;
-        done = std::num::wrapping_add_u64(done, one_if_done(answer));
+        done = done.wrapping_add(one_if_done(answer));
         k += 1;
     }
     done

@@ -31,7 +31,7 @@ fn written(s: System, p: Scheduler, rounds: u64) -> u64 {
     let mut k: u64 = 0;
     while k < rounds {
         let file = usage_write::write(s, p, k);
-        total = std::num::wrapping_add_u64(total, sum(file.bytes[121], file.bytes[2661]));
+        total = total.wrapping_add(sum(file.bytes[121], file.bytes[2661]));
         k += 1;
     }
     total
@@ -48,7 +48,7 @@ fn opened(s: System, p: Scheduler, rounds: u64) -> u64 {
     let mut k: u64 = 0;
     while k < rounds {
         bytes[2645] = (k % 0x100) as u8;
-        total = std::num::wrapping_add_u64(total, domains(&bytes));
+        total = total.wrapping_add(domains(&bytes));
         k += 1;
     }
     total

@@ -60,8 +60,8 @@ fn refused(h: Host, answer: Answer) -> Outcome
 }
 
 fn built_apart(d: usize, v: usize, p: usize, e: usize, u: usize, slice: Ticks) -> Outcome
-    requires p_value { within_sizes d v p ≡ true }
-    requires u_value { within_sizes e u 0 ≡ true }
+    requires system_within { within_sizes d v p ≡ true }
+    requires policy_within { within_sizes e u 0 ≡ true }
     ensures { host_outcome result ≡ made d v p e u slice }
 {
     let s = System::new(d, v, p);
@@ -76,6 +76,7 @@ fn built_apart(d: usize, v: usize, p: usize, e: usize, u: usize, slice: Ticks) -
 }
 
 // The policy's domains are the value's first byte, its vCPUs the second, the slice the other six.
+#[tactic(auto, unfolding(crate::specs::Examine::apart))]
 fn apart(h: Host, dom: DomId, vcpu: Vcpu, pcpus: u32, value: u64) -> Outcome
     ensures { host_outcome result ≡ apart h dom vcpu pcpus value }
 {
@@ -93,6 +94,7 @@ fn apart(h: Host, dom: DomId, vcpu: Vcpu, pcpus: u32, value: u64) -> Outcome
     built_apart(d, v, p, e, u, value % 0x1_0000_0000_0000)
 }
 
+#[tactic(auto, unfolding(script::specs::Script::carried))]
 fn by_plan(h: Host, plan: Plan) -> Outcome
     ensures { host_outcome result ≡ carried h plan }
 {
@@ -109,6 +111,7 @@ fn by_plan(h: Host, plan: Plan) -> Outcome
 }
 
 // A script's plan, but that kind 11 takes a domain offline.
+#[tactic(auto, unfolding(crate::specs::Examine::planned))]
 fn plan_of(built: bool, bytes: &[u8], r: Record) -> Plan
     ensures { result ≡ planned built bytes.now r }
 {
@@ -148,6 +151,7 @@ fn field_written(h: Host, built: bool, r: Record) -> Outcome
     }
 }
 
+#[tactic(auto, unfolding(crate::specs::Examine::answered))]
 fn answered(h: Host, built: bool, bytes: &[u8], r: Record) -> Outcome
     ensures { host_outcome result ≡ answered h built bytes.now r }
 {
@@ -172,7 +176,7 @@ fn is_built(built: bool, told: u64) -> bool
 fn put_answer(out: &mut [u8], number: u64, told: u64, moves: usize) -> usize
     requires { answer_room ≤ length out.old }
     ensures placed { Placed out.old 0 (answer_line number told moves) out.new result }
-    ensures upper_bound { result ≤ answer_room }
+    ensures within { result ≤ answer_room }
 {
     text::put_answer_line(out, 0, number, told, moves as u64)
 }
@@ -199,7 +203,7 @@ fn examined(s: Script, bytes: &[u8], out: &mut [u8]) -> Written
     let answer = x.answer;
     let told = system::number_of(answer);
     let built = is_built(s.built, told);
-    let number = std::num::wrapping_add_u64(s.number, 1);
+    let number = s.number.wrapping_add(1);
     let line = put_answer(out, number, told, x.count);
     let written = put_host(out, line, built, host, r);
     Written {
@@ -221,13 +225,14 @@ struct After {
     put: bool,
 }
 
-fn turn(s: Script, record: &[u8], output: &mut [u8]) -> After
+fn turn(rt: &HostRuntime, s: Script, record: &[u8], output: &mut [u8]) -> After
     requires { entry_room ≤ length output.old }
 {
     let w = examined(s, record, output);
     let script = w.script;
     let written = w.written;
     let put = streams::put(
+        rt,
         &output[..written],
         b"examine: standard output takes no more\n",
     );
@@ -235,28 +240,28 @@ fn turn(s: Script, record: &[u8], output: &mut [u8]) -> After
 }
 
 // How many bytes of a record there are; an error is said.
-fn read(input: &mut [u8]) -> usize
+fn read(rt: &HostRuntime, input: &mut [u8]) -> usize
     ensures { IsPrefixLen result input.new }
 {
-    let got = streams::read(input);
+    let got = streams::read(rt, input);
     if got.failed {
-        streams::say(b"examine: standard input cannot be read\n");
+        streams::say(rt, b"examine: standard input cannot be read\n");
     }
     got.bytes
 }
 
-fn main() {
+fn main(rt: HostRuntime) {
     let mut input = [0u8; records::RECORD];
     let mut output = [0u8; ENTRY_ROOM];
     let mut s = Script::new();
     // a proved loop has to end, and nothing says that the input does
     let mut turns = u64::MAX;
     while turns > 0 {
-        let bytes = read(&mut input);
+        let bytes = read(&rt, &mut input);
         if bytes == 0 {
             return;
         }
-        let turned = turn(s, &input[..bytes], &mut output);
+        let turned = turn(&rt, s, &input[..bytes], &mut output);
         if !turned.put {
             return;
         }

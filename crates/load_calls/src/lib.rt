@@ -120,8 +120,8 @@ fn numbers_from(state: u64, domains: u64, vcpus: u64) -> Drawn
 // ---- what is made of it
 
 fn id_of(number: u64, count: u64) -> u64
-    ensures value { result ≡ id_of number count }
-    ensures upper_bound { result ≤ count }
+    ensures by_remainder { result ≡ id_of number count }
+    ensures within_count { result ≤ count }
 {
     if count == 0 { 0 } else { number % count }
 }

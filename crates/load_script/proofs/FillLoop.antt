@@ -46,6 +46,3 @@ module _ {l₀ : Load} {out₀ : List ℕ} {l : Load} {out : List ℕ} {i : ℕ}
             (stored-behind out₀ 0 (stretch i l₀) (record_bytes r) s.held one (omega (arith, stretch-length i l₀))
             ∙ ap (λ (q : Record). sets out₀ 0 (stretch i l₀ ++ record_bytes q)) here);
       }
-
-  pub all-stored : i ≡ fitting l₀ out₀ → (l ≡ load_after (fitting l₀ out₀) l₀) × (out ≡ sets out₀ 0 (stretch (fitting l₀ out₀) l₀))
-  all-stored e = (s.left ∙ ap (λ (n : ℕ). load_after n l₀) e, s.held ∙ ap (λ (n : ℕ). sets out₀ 0 (stretch n l₀)) e)

@@ -26,8 +26,8 @@ pub fn next(load: Load) -> Handed
 }
 
 pub fn fill(load: Load, out: &mut [u8]) -> Filled
-    ensures out_after { out.new ≡ filled_out load out.old }
-    ensures value { result ≡ filled load out.old }
+    ensures bytes_after { out.new ≡ filled_out load out.old }
+    ensures handed_back { result ≡ filled load out.old }
 {
     load_script::fill(load, out)
 }

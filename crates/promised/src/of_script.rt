@@ -12,8 +12,8 @@ pub fn new() -> Script
 }
 
 pub fn replay(script: Script, bytes: &[u8], out: &mut [u8], states: bool) -> Taken
-    ensures value { result ≡ replayed states script bytes.now out.old }
-    ensures out_after { out.new ≡ replayed_out states script bytes.now out.old }
+    ensures handed_back { result ≡ replayed states script bytes.now out.old }
+    ensures bytes_after { out.new ≡ replayed_out states script bytes.now out.old }
 {
     script::replay(script, bytes, out, states)
 }

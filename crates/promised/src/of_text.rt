@@ -9,8 +9,8 @@ use service::Service;
 use text::{Line, MaybeNumber};
 
 pub fn put_answer_line(out: &mut [u8], at: usize, number: u64, answer: u64, moves: u64) -> usize
-    ensures out_after { out.new ≡ put_answer out.old at number answer moves }
-    ensures value { result ≡ past_answer out.old at number answer moves }
+    ensures line_written { out.new ≡ put_answer out.old at number answer moves }
+    ensures next_place { result ≡ past_answer out.old at number answer moves }
 {
     text::put_answer_line(out, at, number, answer, moves)
 }
@@ -34,8 +34,8 @@ pub fn usage_line(domain: u64, vcpu: u64, weight: u64, service: Service) -> Line
 }
 
 pub fn append(out: &mut [u8], at: usize, line: Line) -> usize
-    ensures out_after { out.new ≡ append out.old at line }
-    ensures value { result ≡ past out.old at line }
+    ensures line_written { out.new ≡ append out.old at line }
+    ensures next_place { result ≡ past out.old at line }
 {
     text::append(out, at, line)
 }

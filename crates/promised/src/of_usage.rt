@@ -9,8 +9,8 @@ use system::{DomId, System, Ticks};
 
 /// It is exact: the four limbs hold it whole.
 pub fn usage(s: System, dom: DomId, now: Ticks) -> Service
-    ensures value { result ≡ four (usage s dom now) }
-    ensures result_value { number result ≡ usage s dom now }
+    ensures limbs { result ≡ four (usage s dom now) }
+    ensures exact { number result ≡ usage s dom now }
 {
     usage::usage(s, dom, now)
 }

@@ -21,8 +21,8 @@ pub fn answer_at(count: usize, domain: usize) -> u64
 
 /// It is that stretch of the slice itself, by its bytes and by its place in memory.
 pub fn body_at(file: &[u8], count: usize, domain: usize) -> &[u8]
-    ensures result_value { result.now ≡ body_by file.now count domain }
-    ensures ref_ptr_value { result.ref_ptr ≡ further file.entry.ref_ptr (start_by file.now count domain) }
+    ensures bytes { result.now ≡ body_by file.now count domain }
+    ensures place { result.ref_ptr ≡ further file.entry.ref_ptr (start_by file.now count domain) }
 {
     usage_parse::body_at(file, count, domain)
 }
@@ -40,8 +40,8 @@ pub fn weight_at(body: &[u8], vcpu: usize) -> u32
 }
 
 pub fn service_at(body: &[u8], vcpu: usize) -> Service
-    ensures value { result ≡ four (service_of_body body.now vcpu) }
-    ensures result_value { number result ≡ service_of_body body.now vcpu }
+    ensures limbs { result ≡ four (service_of_body body.now vcpu) }
+    ensures exact { number result ≡ service_of_body body.now vcpu }
 {
     usage_parse::service_at(body, vcpu)
 }

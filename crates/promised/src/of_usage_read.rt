@@ -11,8 +11,8 @@ pub fn answer_of<'a>(file: &'a [u8], domain: usize) -> u64
 
 /// It is that stretch of the file itself, by its bytes and by its place in memory.
 pub fn body_of<'a>(file: &'a [u8], domain: usize) -> &'a [u8]
-    ensures result_value { result.now ≡ body file.now domain }
-    ensures ref_ptr_value { result.ref_ptr ≡ further file.entry.ref_ptr (body_start file.now domain) }
+    ensures bytes { result.now ≡ body file.now domain }
+    ensures place { result.ref_ptr ≡ further file.entry.ref_ptr (body_start file.now domain) }
 {
     usage_read::body_of(file, domain)
 }

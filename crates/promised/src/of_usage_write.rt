@@ -12,8 +12,8 @@ use usage_write::Written;
 
 /// Whoever reads the file finds the host's own figures in it.
 pub fn write(s: System, p: Scheduler, now: Ticks) -> Written
-    ensures bytes_value { result.bytes ≡ written s p now }
-    ensures length_value { result.length ≡ length (file s p now) }
+    ensures bytes { result.bytes ≡ written s p now }
+    ensures file_length { result.length ≡ length (file s p now) }
     ensures says { Says (file s p now) (domains s) (vcpus s) (weight p) (ran s now) }
 {
     usage_write::write(s, p, now)

@@ -1,5 +1,5 @@
 -- One turn of a replay: the script after it, and the text that it writes. Assumes nothing.
-use Rattle.std.proofs.Common.{◌≡◌, ℕ, suc, ◌+◌, ◌-◌, ◌*◌, ◌/◌, ◌%◌, ◌^◌, ◌<◌, ◌≤◌, Bool, true, false, cond, ◌&&◌, List, [], length, take, drop, sym, refl, ap, ◌∙◌, subst, ap₂, zero-le, mul-le-mul_right, suc-mul, div-mul-le_self, add-one, arith, length-drop, take_all}
+use Rattle.std.proofs.Common.{◌≡◌, ℕ, suc, ◌+◌, ◌*◌, ◌/◌, ◌%◌, ◌^◌, ◌<◌, ◌≤◌, Bool, true, false, cond, ◌&&◌, List, [], length, drop, sym, refl, ap, ◌∙◌, subst, ap₂, zero-le, mul-le-mul_right, suc-mul, div-mul-le_self, add-one, arith}
 use mathlib.Core.Bool.{false≢true}
 use Rattle.system.specs.Answers.{told}
 use Rattle.host.specs.declared.Host.{Host}
@@ -12,10 +12,6 @@ use Rattle.text.specs.Places.{Placed, placed-then}
 use Rattle.host_text.specs.HostText.{host_text}
 use Rattle.script.specs.declared.Script.{Script}
 use Rattle.script.specs.Script.{carried, built_after, script_next, line_told, host_shown, entry, script_after, text, entry_room, room, script_of}
-
--- what is left of the bytes, as a part of a slice
-pub left-of : (bs : List ℕ) (from : ℕ) → take (length bs - from) (drop from bs) ≡ drop from bs
-left-of bs from = take_all (length bs - from) (drop from bs) (omega (arith, length-drop from bs))
 
 -- what a turn found of the record at the start of d
 pub record Turn (c : Script) (d : List ℕ) (p : Plan) (r : Outcome) (m : ℕ) (b : Bool) : Type 0 where
@@ -58,7 +54,7 @@ pub room-more : (i r w : ℕ) → w ≤ i * r + r → w ≤ (i + 1) * r
 room-more i r w h = subst (λ (n : ℕ). w ≤ n) (sym (ap (λ (j : ℕ). j * r) (add-one i) ∙ suc-mul i r)) h
 
 -- what i of n records took fits, and there is room for one more
-pub room-taken : (n l room i w : ℕ) → n ≤ l / room → i ≤ n → w ≤ i * room → w ≤ l
+room-taken : (n l room i w : ℕ) → n ≤ l / room → i ≤ n → w ≤ i * room → w ≤ l
 room-taken n l room i w h k b = omega (arith, div-mul-le_self l room, mul-le-mul_right room h, mul-le-mul_right room k, b)
 
 pub room-left : (n l room i w : ℕ) → n ≤ l / room → i < n → w ≤ i * room → w + room ≤ l

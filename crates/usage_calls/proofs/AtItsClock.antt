@@ -27,7 +27,7 @@ use Rattle.moves.specs.declared.Choice.TheVariants.{Run, Preempt, Rest}
 use Rattle.policy.specs.declared.Scheduler.{Scheduler}
 use Rattle.advance.specs.Advance.{advance}
 use Rattle.advance.specs.Answered.{advance-answered}
-use Rattle.advance.specs.Enacting.{after_calls}
+use Rattle.advance.specs.Enacting.{called, after_calls}
 use Rattle.advance.proofs.Laws.{advance-does}
 use Rattle.host.specs.declared.Host.{Host}
 use Rattle.calls.specs.declared.Call.{Call}
@@ -100,16 +100,17 @@ offline-all-kept c s t d = offline-all_case s (Kept c s) (unchanged c s) d c (λ
 
 -- ---- an advance
 
+called-kept : (c : ℕ) (s : System) → Tables s → (x : Choice) → Kept c s (called s c x).system
+called-kept c s t (Run i p) = requested-kept c s t _ _ (Request.Run p c) refl
+called-kept c s t (Preempt i p) = requested-kept c s t _ _ (Request.Preempt c) refl
+called-kept c s t Rest = unchanged c s
+
 moves-kept : (c : ℕ) (s : System) → Tables s → (cs : List Choice) → Kept c s (after_calls s c cs)
 unfolding after_calls
 moves-kept c s t [] = unchanged c s
-moves-kept c s t (Run i p ∷ cs) =
-    let h = requested-kept c s t _ _ (Request.Run p c) refl in
-    and_then h (moves-kept c _ (h.shape.tables t) cs)
-moves-kept c s t (Preempt i p ∷ cs) =
-    let h = requested-kept c s t _ _ (Request.Preempt c) refl in
-    and_then h (moves-kept c _ (h.shape.tables t) cs)
-moves-kept c s t (Rest ∷ cs) = moves-kept c s t cs
+moves-kept c s t (x ∷ cs) =
+    let h = called-kept c s t x in
+    and_then h (moves-kept c (called s c x).system (h.shape.tables t) cs)
 
 advance-kept : (c : ℕ) (s : System) (π : Scheduler) → Tables s → Kept c s (advance s π c).system
 advance-kept c s π t = go (invariants_hold s) refl

@@ -8,8 +8,8 @@ returns c =
     rw (
       c.value_of.ensures,
       c.kind_number.ensures,
-      c.id_of-vcpu.ensures.value,
-      c.id_of-dom.ensures.value,
+      c.id_of-vcpu.ensures.by_remainder,
+      c.id_of-dom.ensures.by_remainder,
       c.clock_after-now.ensures,
       c.kind_of-kind.ensures,
       c.numbers_from-drawn.ensures,

@@ -1,0 +1,6 @@
+-- `promised::of_host::new` meets its contract. Assumes nothing.
+use Rattle.page.proofs.Laws.{hands-build}
+use Rattle.promised.proofs.of_host.new.Goals as goal
+
+pub returns : goal.returns
+returns c = hands-build _ _ _ _ _ c.new.ensures
