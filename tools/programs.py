@@ -299,6 +299,13 @@ def keep(path, text):
 # ---- a program run
 
 
+def read_by_nobody():
+    """Whether standard output is a pipe whose reader is gone."""
+    poll = select.poll()
+    poll.register(1, 0)
+    return any(what & select.POLLERR for _, what in poll.poll(0))
+
+
 def feed(child, data):
     """Hands a program its input; it may end before it has read all of it."""
     with contextlib.suppress(BrokenPipeError):
@@ -318,6 +325,8 @@ def run(name, args, data=None, output=None):
         if data is not None:
             feed(child, data)
         wrote, said = child.communicate()
+    if said.endswith(b": standard output takes no more\n") and read_by_nobody():
+        return 1, wrote  # as where the tool itself writes into it: without a word
     if said:
         say(said.decode(errors="replace").rstrip("\n"))
     elif child.returncode != 0 and child.returncode != -signal.SIGPIPE:
