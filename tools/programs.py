@@ -251,8 +251,21 @@ def build(name):
         note.cancel()
     if run.returncode != 0:
         raise Bad("".join(lines[-40:]) + f"{name} is not proved as its sources are now")
+    put_built(name)
+
+
+def put_built(name):
+    """The program that stands in its crate's folder, where the tools take it."""
     (ROOT / "target" / "bin").mkdir(parents=True, exist_ok=True)
     shutil.copy(ROOT / "crates" / name / "out" / name, ROOT / "target" / "bin" / name)
+
+
+def built_now(name):
+    """The program as `rt ci` has just built it of these sources."""
+    path = ROOT / "target" / "bin" / name
+    put_built(name)
+    keep(path, standing(path, sources()))
+    return path
 
 
 # ---- what a program was built from, kept beside it: where nothing has changed, nothing has to be proved
