@@ -251,8 +251,21 @@ def build(name):
         note.cancel()
     if run.returncode != 0:
         raise Bad("".join(lines[-40:]) + f"{name} is not proved as its sources are now")
+    put_built(name)
+
+
+def put_built(name):
+    """The program that stands in its crate's folder, where the tools take it."""
     (ROOT / "target" / "bin").mkdir(parents=True, exist_ok=True)
     shutil.copy(ROOT / "crates" / name / "out" / name, ROOT / "target" / "bin" / name)
+
+
+def built_now(name):
+    """The program as `rt ci` has just built it of these sources."""
+    path = ROOT / "target" / "bin" / name
+    put_built(name)
+    keep(path, standing(path, sources()))
+    return path
 
 
 # ---- what a program was built from, kept beside it: where nothing has changed, nothing has to be proved
@@ -299,6 +312,13 @@ def keep(path, text):
 # ---- a program run
 
 
+def read_by_nobody():
+    """Whether standard output is a pipe whose reader is gone."""
+    poll = select.poll()
+    poll.register(1, 0)
+    return any(what & select.POLLERR for _, what in poll.poll(0))
+
+
 def feed(child, data):
     """Hands a program its input; it may end before it has read all of it."""
     with contextlib.suppress(BrokenPipeError):
@@ -318,6 +338,8 @@ def run(name, args, data=None, output=None):
         if data is not None:
             feed(child, data)
         wrote, said = child.communicate()
+    if said.endswith(b": standard output takes no more\n") and read_by_nobody():
+        return 1, wrote  # as where the tool itself writes into it: without a word
     if said:
         say(said.decode(errors="replace").rstrip("\n"))
     elif child.returncode != 0 and child.returncode != -signal.SIGPIPE:

