@@ -1,4 +1,5 @@
 -- What `next` answers, by the ids that it names. Assumes nothing.
+use Rattle.std.specs.Prelude.{Option, None, Some}
 use Prim.Native.Nat.{ℕ, ◌*◌, ◌/◌, ◌%◌, ◌^◌, ◌≤◌, ◌<◌}
 use mathlib.Core.Bool.{Bool, true, false, cond, ◌&&◌}
 use mathlib.Core.Path.{◌≡◌, refl, sym, ◌∙◌, ap, ap₂, subst}
@@ -13,8 +14,6 @@ use Rattle.system.specs.declared.RunState.{RunState}
 use Rattle.system.specs.declared.RunState.TheVariants.{Runnable}
 use Rattle.system.specs.declared.Occupant.TheVariants.{Idle}
 use Rattle.system.specs.declared.System.{System}
-use Rattle.system.specs.declared.MaybeVcpu.{MaybeVcpu}
-use Rattle.system.specs.declared.MaybeState.TheVariants.{Some}
 use Rattle.system.specs.Reads.{vcpu_at, state_at, vcpu_of, state_in, state_of, occupant_at, permits_in}
 use Rattle.system.specs.Slots.{domains, vcpus, pcpus, slot, Present, slot_of}
 use Rattle.sched.specs.CanRun.{CanRun}
@@ -29,12 +28,13 @@ use Rattle.advance.specs.Least.{run-least, run-earliest}
 use Rattle.advance.specs.ServiceRule.{rule_of}
 use Rattle.advance.specs.ByIds.{PreemptsThere, MayGo, service_of, NoneHeld, RunsTheLeast}
 use Rattle.advance.proofs.Recommendations.{Chosen, chosen-run, chosen-preempt}
+use Rattle.system.specs.declared.VirtualCpu.{VirtualCpu}
 
 -- ---- what is read by ids, at the slot
 
 module _ (s : System) where
   -- who is there is read at its slot
-  read_at : (d v : ℕ) → d < domains s → v < vcpus s → vcpu_of s d v ≡ MaybeVcpu.Some (vcpu_at s (slot d v))
+  read_at : (d v : ℕ) → d < domains s → v < vcpus s → vcpu_of s d v ≡ Some (vcpu_at s (slot d v))
   unfolding vcpu_of
   read_at d v l m = rw (lt-ltb d (domains s) l, lt-ltb v (vcpus s) m)
 
@@ -53,7 +53,7 @@ module _ (s : System) where
   there d v st = go (ltb d (domains s)) (ltb v (vcpus s)) refl refl
     where
       go : (a b : Bool) → ltb d (domains s) ≡ a → ltb v (vcpus s) ≡ b
-          → state_in (cond (a && b) (MaybeVcpu.Some (vcpu_at s (slot d v))) MaybeVcpu.None) ≡ Some st → There d v st
+          → state_in (cond (a && b) (Some (vcpu_at s (slot d v))) None) ≡ Some st → There d v st
       go true true x y e =
           let f : state_at s (slot d v) ≡ st = cc in
           record { domain = ltb-true _ _ x; vcpu = ltb-true _ _ y; state = f }
@@ -73,7 +73,7 @@ module _ (s : System) where
         ready = t.state;
         exists = k;
         free = sym (ap (λ (b : Bool). cond b (occupant_at s p) Idle) a.0) ∙ g.free;
-        affine = sym (ap (λ (x : MaybeVcpu). permits_in x p) (read_at d v l m)) ∙ a.1;
+        affine = sym (ap (λ (x : Option VirtualCpu). permits_in x p) (read_at d v l m)) ∙ a.1;
       }
 
   can-go : (i p : ℕ) → CanRun s i p → MayGo s (i / 8) (i % 8) p
@@ -84,7 +84,7 @@ module _ (s : System) where
         free = ap (λ (b : Bool). cond b (occupant_at s p) Idle) k ∙ c.free;
         affine =
             all_two k
-            (ap (λ (x : MaybeVcpu). permits_in x p) (read_at (i / 8) (i % 8) c.present.domain c.present.vcpu)
+            (ap (λ (x : Option VirtualCpu). permits_in x p) (read_at (i / 8) (i % 8) c.present.domain c.present.vcpu)
             ∙ (ap (λ (j : ℕ). permits (vcpu_at s j).affinity p) (slot_of i) ∙ c.affine));
       }
 

@@ -1,46 +1,24 @@
--- The log enacted: what is left of it leads from the system so far to the one that all its moves leave. Assumes nothing.
-use Prim.Native.Nat.{ℕ, suc, ◌+◌, ◌-◌, ◌<◌, ◌≤◌}
-use mathlib.Core.Path.{◌≡◌, sym, ◌∙◌, ap}
-use mathlib.Core.List.{List}
-use native.Mathlib.Numerals.{add-one}
-use native.Mathlib.Omega.{arith}
-use lib.ListN.{get_or}
-use Rattle.system.specs.declared.VirtualCpu.{VirtualCpu}
-use Rattle.system.specs.declared.Occupant.{Occupant}
+-- The log enacted move by move. Assumes nothing.
+use Rattle.std.proofs.Common.{ℕ, ◌+◌, ◌<◌, List, [], ◌∷◌, ◌++◌, length, get_or, ◌≡◌, refl, ◌∙◌, ap₂, sym, add-one}
+use Rattle.std.specs.Prelude.{map, take}
+use Rattle.std.proofs.Math.Seq.{take-suc}
+use Rattle.std.proofs.lemmas.List.{map-append}
 use Rattle.system.specs.declared.System.{System}
-use Rattle.system.specs.Reads.{vcpu_at}
-use Rattle.system.specs.Writes.{put_vcpu, put_occupant}
 use Rattle.moves.specs.declared.Choice.{Choice}
-use Rattle.moves.specs.Settling.{logged, logged_from}
-use Rattle.rules.specs.Settle.{slot_in, onto_in}
-use Rattle.settling.specs.AfterMoves.{record_after, occupant_after, moved, after_moves}
+use Rattle.moves.specs.declared.Move.{Move}
+use Rattle.moves.specs.Settling.{choice_of}
+use Rattle.settling.specs.AfterMoves.{moved, after_moves}
 
--- what the code stores of a move c is the system after it
-pub stores-move : (s : System) (now : ℕ) (c : Choice) {i p : ℕ} {v : VirtualCpu} {o : Occupant} → i ≡ slot_in c → p ≡ onto_in c
-    → v ≡ record_after c (vcpu_at s i) now → o ≡ occupant_after c → put_occupant (put_vcpu s i v) p o ≡ moved s now c
-stores-move s now c a b d e = rw (d, e, a, b)
+-- one more move
+after-last : (s : System) (now : ℕ) (cs : List Choice) (c : Choice) → after_moves s now (cs ++ c ∷ []) ≡ moved (after_moves s now cs) now c
+unfolding after_moves
+after-last s now [] c = refl
+after-last s now (x ∷ cs) c = after-last (moved s now x) now cs c
 
--- s is where the first i of the n moves of a log lead from s₀
-pub record Enacting (s₀ : System) (now : ℕ) (log : List ℕ) (n i : ℕ) (s : System) : Type 0 where
-  pub leads : after_moves s now (logged_from log i (n - i)) ≡ after_moves s₀ now (logged_from log 0 n)
-  pub within : i ≤ n
-
-module _ {s₀ s : System} {now n i : ℕ} {log : List ℕ} (E : Enacting s₀ now log n i s) where
-  pub enacting_next : i < n → {t : System} → t ≡ moved s now (logged (get_or log i 0)) → Enacting s₀ now log n (i + 1) t
-  unfolding logged_from after_moves
-  enacting_next l {t} e =
-      let m : n - i ≡ suc (n - suc i) = omega arith in
-      record {
-        leads =
-            rw (add-one i)
-            (ap (λ (o : System). after_moves o now (logged_from log (suc i) (n - suc i))) e
-            ∙ sym (ap (λ (k : ℕ). after_moves s now (logged_from log i k)) m)
-            ∙ E.leads);
-        within = omega arith;
-      }
-
-  pub enacting_ends : n ≤ i → s ≡ after_moves s₀ now (logged_from log 0 n)
-  unfolding logged_from after_moves
-  enacting_ends l =
-      let m : n - i ≡ 0 = omega arith in
-      sym (ap (λ (k : ℕ). after_moves s now (logged_from log i k)) m) ∙ E.leads
+-- what the code stores of a move is the system after one more entry
+pub enacts_next : (s : System) (now : ℕ) (log : List Move) (i : ℕ) (d : Move) → i < length log → {t u : System} {c : Choice}
+    → t ≡ after_moves s now (map choice_of (take i log)) → c ≡ choice_of (get_or log i d) → u ≡ moved t now c
+    → u ≡ after_moves s now (map choice_of (take (i + 1) log))
+enacts_next s now log i d l e f g =
+    rw (add-one i, take-suc log i d l, map-append choice_of (take i log) (get_or log i d ∷ []))
+    (g ∙ ap₂ (λ (o : System) (x : Choice). moved o now x) e f ∙ sym (after-last s now (map choice_of (take i log)) _))

@@ -1,4 +1,6 @@
 -- Nothing but the pCPU of a Run depends on the pCPUs that vCPUs were last on. Assumes nothing.
+use Rattle.std.specs.Prelude.{Option, None, Some, is_none}
+use Rattle.std.specs.Option.{option_or}
 use Prim.Native.Nat.{ℕ, zero, suc, ◌*◌, ◌/◌, ◌%◌}
 use mathlib.Core.Bool.{Bool, true, false, cond, ◌&&◌}
 use mathlib.Core.Path.{◌≡◌, refl, sym, ◌∙◌, ap, ap₂, subst}
@@ -20,9 +22,9 @@ use Rattle.system.specs.Shape.{no_vcpu, within_sizes}
 use Rattle.system.specs.Slots.{domains, vcpus, pcpus, slot, slots, present}
 use Rattle.system.specs.States.{onto, is_runnable}
 use Rattle.verdict.specs.declared.Violation.{Violation}
-use Rattle.verdict.specs.declared.Violation.TheVariants.{None, Oversize}
+use Rattle.verdict.specs.declared.Violation.TheVariants.{Oversize}
 use Rattle.verdict.specs.Violations.{vcpu_violation, slot_violation, occupant_violation, holder_violation, pcpu_violation}
-use Rattle.verdict.specs.Violations.{earliest, or_else, first_violation, is_none, invariants_hold}
+use Rattle.verdict.specs.Violations.{earliest, first_violation, invariants_hold}
 use Rattle.sched.specs.CanRun.{CanRun}
 use Rattle.moves.specs.declared.Choice.{Choice}
 use Rattle.moves.specs.declared.Choice.TheVariants.{Run, Preempt, Rest}
@@ -81,10 +83,10 @@ module _ (s : System) where
   unfolding first_violation without_lasts
   verdict-same =
       ap₂
-      (λ (f g : ℕ → Violation).
+      (λ (f g : ℕ → Option Violation).
       cond (within_sizes s.domain_count s.vcpus_per_domain s.pcpu_count)
-      (or_else (earliest f (domains s * 8)) (earliest g (pcpus s)))
-      Oversize)
+      (option_or (earliest f (domains s * 8)) (earliest g (pcpus s)))
+      (Some Oversize))
       (λ o i. slot_same i o)
       (λ o p. pcpu-same p o)
 
@@ -130,7 +132,7 @@ module _ (s : System) (π : Scheduler) (now : ℕ) where
   alike : AlikeAnywhere (next s π now) (next (without_lasts s) π now)
   unfolding next invariants_hold
   alike =
-      subst (λ (w : Violation). AlikeAnywhere (next s π now) (recommended (is_none w) (choice (without_lasts s) (rule_of π) now)))
+      subst (λ (w : Option Violation). AlikeAnywhere (next s π now) (recommended (is_none w) (choice (without_lasts s) (rule_of π) now)))
       (sym (verdict-same s)) (go (is_none (first_violation s)))
     where
       go : (b : Bool)

@@ -1,5 +1,4 @@
 pub mod Laws
-mod Lookups
 mod SurveyLoop
 mod AdvanceResult
 mod Enacting

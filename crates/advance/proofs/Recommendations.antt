@@ -7,7 +7,7 @@ use borrow.Author.Tests.{lt-ltb}
 use Rattle.scans.specs.Booleans.{zero_one}
 use Rattle.system.specs.declared.System.{System}
 use Rattle.system.specs.Answers.{SystemOutcome}
-use Rattle.system.specs.Slots.{pcpus, slot, Present, slot_of}
+use Rattle.system.specs.Slots.{pcpus, slot, Present, slot-below, slot_of}
 use Rattle.verdict.specs.Violations.{invariants_hold}
 use Rattle.verdict.specs.Sound.{Sound, sound_iff}
 use Rattle.calls.specs.declared.Request.{Request}
@@ -23,6 +23,7 @@ use Rattle.advance.specs.declared.Decision.{Decision}
 use Rattle.advance.specs.declared.Decision.TheVariants as decision
 use Rattle.rules.specs.Choices.{choice}
 use Rattle.advance.specs.Advance.{named, recommended, next}
+use Rattle.advance.specs.Outcomes.{named_as}
 use Rattle.advance.specs.BackToLast.{RunPlaced}
 use Rattle.advance.specs.ByIds.{RunAccepted, PreemptAccepted}
 use Rattle.rules.proofs.ChoiceLaws.{choice-run, choice-back, choice-lowest, choice-preempt}
@@ -94,6 +95,15 @@ module _ (s : System) (π : Scheduler) (now : ℕ) where
           record { sound = S; domain = rw (← j) a; vcpu = rw (← j) b; is = rw (← j, ← k) f }
       go S (Run i q) f h = absurd (zero_one cc)
       go S Rest f h = absurd (zero_one cc)
+
+  -- whoever is chosen is named by its ids: a slot's domain is below 16
+  domain-is : {i : ℕ} → Present s i → i / 8 % 16 ≡ i / 8
+  domain-is h = let l = slot-below h in omega arith
+
+  pub names : (c : Choice) → choice s (rule_of π) now ≡ c → named_as c ≡ named c
+  names (Run i p) e = ap (λ (d : ℕ). decision.Run d (i % 8) p) (domain-is (choice-run s (rule_of π) now i p e).present)
+  names (Preempt i p) e = ap (λ (d : ℕ). decision.Preempt d (i % 8) p) (domain-is (choice-preempt s (rule_of π) now i p e).present)
+  names Rest e = refl
 
 -- who is told to run a vCPU, and runs it, is told 0
 pub next-run-accepted : RunAccepted

@@ -1,10 +1,9 @@
 -- What `next` answers, by the ids that it names and by what can be read of the system, sound or not. Proved as
 -- `next-run-accepted`, `next-preempt-accepted`, `next-preempts` and `next-least`.
-use Rattle.std.specs.Prelude.{ℕ, ◌*◌, ◌^◌, ◌≤◌, ◌<◌, true, ◌≡◌, ◌⊎◌}
+use Rattle.std.specs.Prelude.{ℕ, ◌*◌, ◌^◌, ◌≤◌, ◌<◌, true, ◌≡◌, ◌⊎◌, Some}
 use Rattle.system.specs.declared.RunState.TheVariants.{Runnable, Running}
 use Rattle.system.specs.declared.Occupant.TheVariants.{Idle}
 use Rattle.system.specs.declared.System.{System}
-use Rattle.system.specs.declared.MaybeState.TheVariants.{Some}
 use Rattle.system.specs.declared.Answer.TheVariants.{Done}
 use Rattle.system.specs.Answers.{told}
 use Rattle.system.specs.Reads.{state_of, occupant_of, affinity_permits}

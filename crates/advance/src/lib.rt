@@ -2,115 +2,103 @@
 
 #![tactic(auto)]
 
-ghost use Rattle.std.specs.Prelude.{◌≡◌, ◌<◌};
+ghost use Rattle.std.specs.Prelude.{◌≡◌, IfErr, true, length, map};
+ghost use Rattle.system.specs.declared.Answer.TheVariants.{Unsound};
+ghost use Rattle.system.specs.Slots.{slots};
+ghost use Rattle.verdict.specs.Violations.{invariants_hold};
+ghost use Rattle.moves.specs.Settling.{choice_of};
+ghost use Rattle.rules.specs.Settle.{settle, limit};
+ghost use Rattle.settling.specs.AfterMoves.{after_moves};
+ghost use Rattle.settling.specs.IdleSet.{idle_set};
+ghost use Rattle.settling.specs.TableOf.{TableOf};
+ghost use Rattle.advance.specs.ServiceRule.{rule_of};
+ghost use Rattle.advance.specs.Tabulated.{service_row};
 ghost use Rattle.advance.specs.Advance.{next, advance};
-ghost use Rattle.advance.specs.Outcomes.{named_as, next_outcome, told_of, advance_outcome, counted};
-ghost use Rattle.advance.specs.Tabulated.{tabulated};
-ghost use Rattle.advance.specs.Survey.{survey_with, may_move};
+ghost use Rattle.advance.specs.Outcomes.{named_as, next_outcome, advance_outcome, counted};
+ghost use Rattle.advance.specs.Survey.{survey_with, may_move, Seen};
 
-use moves::Choice;
+use moves::{Choice, Move, Row, Standing, Table};
 use policy::{Account, Scheduler};
-use system::{Answer, DomId, Pcpu, PhysicalCpu, RunState, System, Ticks, Vcpu, VirtualCpu, least};
+use system::{Answer, DomId, Pcpu, PhysicalCpu, RunState, System, Ticks, Vcpu, VirtualCpu};
 
 /// What `next` recommends.
-#[derive(Clone, Copy)]
+#[derive(Clone, Copy, PartialEq, Eq)]
 pub enum Decision {
     Run { dom: DomId, vcpu: Vcpu, pcpu: Pcpu },
     Preempt { dom: DomId, vcpu: Vcpu, pcpu: Pcpu },
     Idle,
 }
 
-/// An answer, and what is recommended.
-#[derive(Clone, Copy)]
-pub struct Recommendation {
+/// What a call is told, and how many moves it enacted.
+#[derive(Clone, Copy, PartialEq, Eq)]
+pub struct Outcome {
     pub answer: Answer,
-    pub decision: Decision,
-}
-
-/// An answer, the system and the policy that an advance leaves, and how many moves it enacted.
-// The answer stands last: behind it, and what pads it, the tables would be copied once more.
-#[derive(Clone, Copy)]
-pub struct Advanced {
-    pub system: System,
-    pub scheduler: Scheduler,
     pub count: usize,
-    pub answer: Answer,
 }
 
 // ---- what to do next
 
-// A vCPU's row stored as slot i's, by its account. Of one that takes no part in a decision only that is stored.
-fn tabulate(
-    table: &mut [u32; moves::TABLE],
-    i: usize,
-    v: VirtualCpu,
-    a: Account,
-    present: bool,
-    quantum: Ticks,
-    clock: Ticks,
-)
-    requires { i < 128 }
-    ensures { table.new ≡ tabulated table.old i v a present quantum clock }
+// What a decision goes by, of a vCPU with its account. Nobody is barred.
+fn row_of(v: &VirtualCpu, a: &Account, present: bool, quantum: Ticks, now: Ticks) -> Row
+    ensures { result ≡ service_row v.now a.now present quantum now }
 {
-    let kind = settling::kind_of(v, present, false, quantum, clock);
-    if kind == 0 {
-        moves::put_kind(table, i, 0);
-    } else {
-        if 2 <= kind {
-            let u = changes::left(v, RunState::Runnable, clock);
-            moves::put_leaving(table, kind - 2, policy::service_of(u, a, clock));
+    let standing = settling::standing_of(v, present, false, quantum, now);
+    let leaving = match standing {
+        Standing::Rests => return Row::RESTING,
+        Standing::Waits => [0; 4],
+        Standing::Expired { .. } => {
+            let left = changes::left(*v, RunState::Runnable, now);
+            policy::service_of(&left, a, now)
         }
-        let service = policy::service_of(v, a, clock);
-        let weight = policy::used_weight(a);
-        moves::put_row(table, i, settling::row_of(kind, weight, service, v));
+    };
+    let service = policy::service_of(v, a, now);
+    settling::row_of(standing, a.used_weight(), service, leaving, v)
+}
+
+// The rows of a system's slots.
+fn tabulate(table: &mut Table, s: &System, p: &Scheduler, now: Ticks)
+    ensures { TableOf s.now (rule_of p.now) now table.new (slots s.now) }
+{
+    let k = s.vcpus_per_domain();
+    for i in 0..s.domain_count() * 8 {
+        table[i] = row_of(&s.vcpus[i], &p.account_at(i), i % 8 < k, p.quantum, now);
     }
 }
 
-// A choice by the vCPU's ids. % 16 keeps the casts in range without a precondition.
-fn named(c: Choice) -> Decision
-    ensures { result ≡ named_as c }
-{
-    match c {
-        Choice::Run { at, pcpu } => Decision::Run {
-            dom: (at / 8 % 16) as u16,
-            vcpu: (at % 8) as u32,
-            pcpu,
-        },
-        Choice::Preempt { at, pcpu } => Decision::Preempt {
-            dom: (at / 8 % 16) as u16,
-            vcpu: (at % 8) as u32,
-            pcpu,
-        },
-        Choice::Rest => Decision::Idle,
+impl From<Choice> for Decision {
+    ghost from_gives = { λ c d. d ≡ named_as c };
+
+    // % 16 keeps the casts in range without a precondition.
+    fn from(c: Choice) -> Decision {
+        match c {
+            Choice::Run { at, pcpu } => Decision::Run {
+                dom: (at / 8 % 16) as u16,
+                vcpu: (at % 8) as u32,
+                pcpu,
+            },
+            Choice::Preempt { at, pcpu } => Decision::Preempt {
+                dom: (at / 8 % 16) as u16,
+                vcpu: (at % 8) as u32,
+                pcpu,
+            },
+            Choice::Rest => Decision::Idle,
+        }
     }
 }
 
 /// What to do next: dispatch a vCPU that waits onto an idle pCPU, else preempt one, else nothing.
-pub fn next(s: System, p: Scheduler, now: Ticks) -> Recommendation
-    ensures { next_outcome result ≡ next s p now }
+pub fn next(s: &System, p: &Scheduler, now: Ticks) -> Result<Decision, Answer>
+    ensures recommended { next_outcome result ≡ next s.now p.now now }
+    ensures refused { IfErr result (λ a. a ≡ Unsound) }
 {
     if !verdict::invariants_hold(s) {
-        return Recommendation {
-            answer: Answer::Unsound,
-            decision: Decision::Idle,
-        };
+        return Err(Answer::Unsound);
     }
-    let n = least(s.domain_count, system::MAX_DOMAINS) * 8;
-    let k = s.vcpus_per_domain;
-    let mut table = [0u32; moves::TABLE];
-    let mut i: usize = 0;
-    while i < n {
-        let v = s.vcpus[i];
-        let a = policy::looked_up(p.domain_count, p.vcpus_per_domain, i, p.accounts[i]);
-        tabulate(&mut table, i, v, a, i % 8 < k, p.quantum, now);
-        i += 1;
-    }
-    let pcpus = s.pcpus;
-    let idle = settling::idle_set(pcpus, s.pcpu_count);
-    Recommendation {
-        answer: Answer::Done,
-        decision: named(moves::decide(&table, n, idle)),
-    }
+    let mut table = *moves::resting();
+    tabulate(&mut table, s, p, now);
+    let idle = settling::idle_set(&s.pcpus, s.pcpu_count);
+    let choice = moves::decide(&table, s.domain_count() * 8, idle);
+    Ok(Decision::from(choice))
 }
 
 // ---- an advance
@@ -132,120 +120,96 @@ impl Survey {
         waits: false,
         expired: false,
     };
-}
 
-// What was seen once a vCPU was looked at too.
-fn survey_with(survey: Survey, v: VirtualCpu, a: Account, quantum: Ticks, now: Ticks) -> Survey
-    ensures { result ≡ survey_with survey v a quantum now }
-{
-    let state = v.state;
-    let was = a.was_schedulable;
-    match state {
-        RunState::Offline => Survey {
-            changed: was | survey.changed,
-            waits: survey.waits,
-            expired: survey.expired,
-        },
-        RunState::Runnable => Survey {
-            changed: !was | survey.changed,
-            waits: true,
-            expired: survey.expired,
-        },
-        RunState::Running { pcpu: _ } => Survey {
-            changed: !was | survey.changed,
-            waits: survey.waits,
-            expired: (quantum <= system::elapsed(v, now)) | survey.expired,
-        },
-        RunState::Blocked => Survey {
-            changed: was | survey.changed,
-            waits: survey.waits,
-            expired: survey.expired,
-        },
+    // What was seen once a vCPU was looked at too.
+    fn with(self, v: &VirtualCpu, a: &Account, quantum: Ticks, now: Ticks) -> Survey
+        ensures { result ≡ survey_with self v.now a.now quantum now }
+    {
+        let expires = v.state.is_running() && quantum <= v.elapsed(now);
+        Survey {
+            changed: v.state.is_schedulable() != a.was_schedulable || self.changed,
+            waits: matches!(v.state, RunState::Runnable) || self.waits,
+            expired: expires || self.expired,
+        }
+    }
+
+    // Whether a move may be possible: none is unless somebody waits, and a pCPU is idle or may be freed.
+    fn may_move(self, idle: u64) -> bool
+        ensures { result ≡ may_move self idle }
+    {
+        self.waits && (idle != 0 || self.expired)
     }
 }
 
-// Whether a move may be possible: none is unless somebody waits, and a pCPU is idle or may be freed.
-fn may_move(survey: Survey, idle: u64) -> bool
-    ensures { result ≡ may_move survey idle }
+// What an advance of a system has to do, by one look at each vCPU. That the table of accounts is whole is said for the caller, to
+// whom the policy behind its reference does not say so.
+fn surveyed(s: &System, accounts: &[Account; 128], quantum: Ticks, now: Ticks) -> Survey
+    ensures seen { Seen s.now accounts.now quantum now result (slots s.now) }
+    ensures long { length accounts.now ≡ 128 }
 {
-    survey.waits & ((idle != 0) | survey.expired)
+    let k = s.vcpus_per_domain();
+    let mut survey = Survey::NOTHING;
+    for i in 0..s.domain_count() * 8 {
+        if i % 8 < k {
+            survey = survey.with(&s.vcpus[i], &accounts[i], quantum, now);
+        }
+    }
+    survey
 }
 
-fn told_of(sound: bool) -> Answer
-    ensures { result ≡ told_of sound }
+// Does the moves to the system.
+fn enact(s: &mut System, log: &[Move], now: Ticks)
+    ensures { s.new ≡ after_moves s.old now (map choice_of log.now) }
 {
-    if sound { Answer::Done } else { Answer::Unsound }
+    for m in log {
+        let c = Choice::from(*m);
+        let at = settling::slot_in(c);
+        s.vcpus[at] = settling::record_after(c, s.vcpus[at], now);
+        s.pcpus[settling::onto_in(c) as usize] = PhysicalCpu {
+            occupant: settling::occupant_after(c),
+        };
+    }
+}
+
+// Moves until nothing is left to do; the answer is how many moves that took.
+fn settle(s: &mut System, p: &Scheduler, idle: u64, now: Ticks) -> usize
+    requires sound { invariants_hold s.old ≡ true }
+    requires idle { idle ≡ idle_set s.old }
+    ensures system { s.new ≡ (settle (rule_of p.now) now (limit s.old) s.old).system }
+    ensures count { result ≡ length (settle (rule_of p.now) now (limit s.old) s.old).moves }
+{
+    let mut table = *moves::resting();
+    tabulate(&mut table, s, p, now);
+    let mut log = moves::BLANK;
+    let most = settling::most_moves(s.domain_count, s.vcpus_per_domain, s.pcpu_count);
+    let n = s.domain_count() * 8;
+    let count = moves::settle(&mut table, &mut log, n, idle, most, p.quantum);
+    enact(s, &log[..count], now);
+    count
 }
 
 /// Accounts, then does what is next until nothing is.
-// Whoever owns the records holds the loops over them: handed to a function, they would be copied.
-pub fn advance(mut s: System, mut p: Scheduler, now: Ticks) -> Advanced
-    ensures { advance_outcome result ≡ counted (advance s p now) }
+pub fn advance(s: &mut System, p: &mut Scheduler, now: Ticks) -> Outcome
+    ensures { advance_outcome result s.new p.new ≡ counted (advance s.old p.old now) }
 {
-    let k = s.vcpus_per_domain;
-    let m = s.pcpu_count;
-    let n = least(s.domain_count, system::MAX_DOMAINS) * 8;
-    let mut sound = system::within_sizes(s.domain_count, k, m);
-    let mut running: usize = 0;
-    let mut survey = Survey::NOTHING;
-    // Whether the system is sound, and what there is to do, by one look at each vCPU.
-    let mut i: usize = 0;
-    while i < n {
-        if i % 8 < k {
-            let v = s.vcpus[i];
-            let a = p.accounts[i];
-            survey = survey_with(survey, v, a, p.quantum, now);
-            if verdict::runs_within(v, i % 8, k) {
-                let q = verdict::pcpu_index(v);
-                let c = s.pcpus[q];
-                if !verdict::is_backed(v, c, m, i / 8, i % 8) {
-                    sound = false;
-                }
-                running += 1;
-            }
-        }
-        i += 1;
+    if !verdict::invariants_hold(s) {
+        return Outcome {
+            answer: Answer::Unsound,
+            count: 0,
+        };
     }
-    let pcpus = s.pcpus;
-    let idle = settling::idle_set(pcpus, m);
-    if running != system::busy_in(pcpus, m) {
-        sound = false;
+    let survey = surveyed(s, &p.accounts, p.quantum, now);
+    if survey.changed {
+        p.account(s, now);
     }
-    let mut count: usize = 0;
-    if sound {
-        if survey.changed {
-            p = policy::accounted(s, p, now);
-        }
-        if may_move(survey, idle) {
-            let mut table = [0u32; moves::TABLE];
-            let mut j: usize = 0;
-            while j < n {
-                let v = s.vcpus[j];
-                let a = policy::looked_up(p.domain_count, p.vcpus_per_domain, j, p.accounts[j]);
-                tabulate(&mut table, j, v, a, j % 8 < k, p.quantum, now);
-                j += 1;
-            }
-            let mut log = [0u16; moves::LOG];
-            let most = settling::most_moves(s.domain_count, k, m);
-            count = moves::settle(&mut table, &mut log, n, idle, most, p.quantum);
-            let mut l: usize = 0;
-            while l < count {
-                let c = moves::logged(log[l]);
-                let at = settling::slot_in(c);
-                let q = settling::onto_in(c) as usize;
-                let u = s.vcpus[at];
-                s.vcpus[at] = settling::record_after(c, u, now);
-                s.pcpus[q] = PhysicalCpu {
-                    occupant: settling::occupant_after(c),
-                };
-                l += 1;
-            }
-        }
-    }
-    Advanced {
-        system: s,
-        scheduler: p,
+    let idle = settling::idle_set(&s.pcpus, s.pcpu_count);
+    let count = if survey.may_move(idle) {
+        settle(s, p, idle, now)
+    } else {
+        0
+    };
+    Outcome {
+        answer: Answer::Done,
         count,
-        answer: told_of(sound),
     }
 }

@@ -7,30 +7,53 @@
 
 #![tactic(auto)]
 
+use big_endian::BigEndian;
 use std::io::Print;
 
 mod advances;
 mod transitions;
 mod usage_files;
 
-fn made(kind: u8, rounds: u64, num_domains: u8, vcpus: u8, pcpus: u8) -> u64 {
-    match kind {
-        0 => transitions::made(rounds),
-        1 => advances::made(num_domains as usize, vcpus as usize, pcpus as usize, rounds),
-        2 => usage_files::made(false, rounds),
-        _ => usage_files::made(true, rounds),
+// What is timed, by the order's first byte.
+enum Timed {
+    Transitions,
+    Advances,
+    FilesWritten,
+    FilesOpened,
+}
+
+impl From<u8> for Timed {
+    fn from(byte: u8) -> Timed {
+        match byte {
+            0 => Timed::Transitions,
+            1 => Timed::Advances,
+            2 => Timed::FilesWritten,
+            _ => Timed::FilesOpened,
+        }
+    }
+}
+
+fn made(timed: Timed, rounds: u64, num_domains: u8, vcpus: u8, pcpus: u8) -> u64 {
+    match timed {
+        Timed::Transitions => transitions::made(rounds),
+        Timed::Advances => {
+            advances::made(num_domains as usize, vcpus as usize, pcpus as usize, rounds)
+        }
+        Timed::FilesWritten => usage_files::written(rounds),
+        Timed::FilesOpened => usage_files::opened(rounds),
     }
 }
 
 // One order; false where there is none left.
 fn obeyed(rt: &HostRuntime) -> bool {
-    let mut b = [0u8; 8];
-    let got = streams::read(rt, &mut b);
+    let mut order = [0u8; 8];
+    let got = streams::read(rt, &mut order);
     if got.bytes < 8 {
         return false;
     }
-    let rounds = big_endian::word(b[1], b[2], b[3], b[4]) as u64;
-    let count = made(b[0], rounds, b[5], b[6], b[7]);
+    let [timed, _, _, _, _, num_domains, vcpus, pcpus] = order;
+    let rounds = u32::read_at(&order, 1) as u64;
+    let count = made(Timed::from(timed), rounds, num_domains, vcpus, pcpus);
     // what is not taken is missed by whoever reads it
     let _ = rt.stdout().println(count);
     true
@@ -38,12 +61,9 @@ fn obeyed(rt: &HostRuntime) -> bool {
 
 fn main(rt: HostRuntime) {
     // a proved loop has to end, and nothing says that the input does
-    let mut turns = u64::MAX;
-    while turns > 0 {
-        let more = obeyed(&rt);
-        if !more {
+    for _ in 0..u64::MAX {
+        if !obeyed(&rt) {
             return;
         }
-        turns -= 1;
     }
 }

@@ -22,44 +22,37 @@ fn full_system() -> System {
     }
 }
 
-fn sum(a: u8, b: u8) -> u64 {
-    a as u64 + b as u64
-}
-
-fn written(s: System, p: Scheduler, rounds: u64) -> u64 {
-    let mut total: u64 = 0;
-    let mut k: u64 = 0;
-    while k < rounds {
-        let file = usage_write::write(s, p, k);
-        total = total.wrapping_add(sum(file.bytes[121], file.bytes[2661]));
-        k += 1;
-    }
-    total
-}
-
-fn domains(bytes: &[u8; 2662]) -> u64 {
-    usage_parse::domain_count(bytes) as u64
-}
-
-fn opened(s: System, p: Scheduler, rounds: u64) -> u64 {
-    let file = usage_write::write(s, p, 0);
-    let mut bytes = file.bytes;
-    let mut total: u64 = 0;
-    let mut k: u64 = 0;
-    while k < rounds {
-        bytes[2645] = (k % 0x100) as u8;
-        total = total.wrapping_add(domains(&bytes));
-        k += 1;
-    }
-    total
-}
-
-pub fn made(opens: bool, rounds: u64) -> u64 {
+/// Files written.
+pub fn written(rounds: u64) -> u64 {
+    let Ok(p) = Scheduler::new(16, 8, 10) else {
+        return 0;
+    };
     let s = full_system();
-    let p = Scheduler::new(16, 8, 10).policy;
-    if opens {
-        opened(s, p, rounds)
-    } else {
-        written(s, p, rounds)
+    let mut total: u64 = 0;
+    for k in 0..rounds {
+        let file = usage_write::write(&s, &p, k);
+        if let [.., last] = file.as_slice()
+            && let Some(of_first) = file.get(121)
+        {
+            total = total.wrapping_add(*of_first as u64 + *last as u64);
+        }
     }
+    total
+}
+
+/// Files opened.
+pub fn opened(rounds: u64) -> u64 {
+    let Ok(p) = Scheduler::new(16, 8, 10) else {
+        return 0;
+    };
+    let mut file = usage_write::write(&full_system(), &p, 0);
+    let mut total: u64 = 0;
+    for k in 0..rounds {
+        if let Some(of_weight) = file.get_mut(2645) {
+            *of_weight = (k % 0x100) as u8;
+        }
+        let domains = usage_parse::domain_count(file.as_slice());
+        total = total.wrapping_add(domains.unwrap_or(17) as u64);
+    }
+    total
 }

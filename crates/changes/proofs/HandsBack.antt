@@ -1,11 +1,11 @@
 -- A refusal hands both records back as they are. Assumes nothing.
-use Rattle.std.proofs.Common.{Bool, true, false, cond, refl}
+use Rattle.std.proofs.Common.{Bool, true, false, cond, Ok, Err, refl}
 use Rattle.system.specs.declared.VirtualCpu.{VirtualCpu}
 use Rattle.system.specs.declared.PhysicalCpu.{PhysicalCpu}
 use Rattle.system.specs.declared.Answer.{Answer}
 use Rattle.system.specs.declared.Answer.TheVariants.{Done}
 use Rattle.system.specs.Reads.{is_idle}
-use Rattle.changes.specs.declared.Change.TheVariants.{Refuse, Write, Enter, Leave}
+use Rattle.changes.specs.declared.Change.TheVariants.{Write, Enter, Leave}
 use Rattle.changes.specs.declared.After.{After}
 use Rattle.changes.specs.Changes.{kept}
 use Rattle.changes.specs.HandsBack.{HandsBack, ChangeHandsBack}
@@ -23,7 +23,7 @@ module _ (x : VirtualCpu) (c : PhysicalCpu) where
   tested-hands-back false a h = kept-hands-back a
 
 pub stored-hands-back : ChangeHandsBack
-stored-hands-back (Refuse a) who x c = kept-hands-back x c a
-stored-hands-back (Write w) who x c = done-hands-back x c w c
-stored-hands-back (Enter w p) who x c = tested-hands-back x c (is_idle c.occupant) _ (done-hands-back x c w _)
-stored-hands-back (Leave w p) who x c = done-hands-back x c w _
+stored-hands-back (Err a) who x c = kept-hands-back x c a
+stored-hands-back (Ok (Write w)) who x c = done-hands-back x c w c
+stored-hands-back (Ok (Enter w p)) who x c = tested-hands-back x c (is_idle c.occupant) _ (done-hands-back x c w _)
+stored-hands-back (Ok (Leave w p)) who x c = done-hands-back x c w _

@@ -1,31 +1,30 @@
 -- What is told of a vCPU found in a state that the call does not accept tells that state, of every request. Assumes nothing.
-use Rattle.std.specs.Prelude.{ℕ, ◌<◌, Bool, true, false, cond, ◌≡◌, refl, ◌≢◌}
+use Rattle.std.specs.Prelude.{ℕ, ◌<◌, Bool, true, false, cond, ◌≡◌, refl, ◌≢◌, Option, Some, Result, Ok, Err}
 use Rattle.std.proofs.Common.{arith}
 use Rattle.masks.specs.Masks.{permits}
 use Rattle.system.specs.declared.RunState.{RunState}
 use Rattle.system.specs.declared.RunState.TheVariants.{Offline, Runnable, Running, Blocked}
 use Rattle.system.specs.declared.VirtualCpu.{VirtualCpu}
-use Rattle.system.specs.declared.MaybeState.{MaybeState}
-use Rattle.system.specs.declared.MaybeState.TheVariants.{Some}
+use Rattle.system.specs.declared.Answer.{Answer}
 use Rattle.system.specs.declared.Answer.TheVariants.{Done, NotAffine, Unsound}
 use Rattle.system.specs.declared.Answer.TheVariants.{FoundOffline, FoundRunnable, FoundRunning, FoundBlocked}
 use Rattle.system.specs.Answers.{told}
 use Rattle.system.specs.Records.{with_mask}
 use Rattle.calls.specs.declared.Request.{Request}
 use Rattle.changes.specs.declared.Change.{Change}
-use Rattle.changes.specs.declared.Change.TheVariants.{Refuse, Write, Enter, Leave}
+use Rattle.changes.specs.declared.Change.TheVariants.{Write, Enter, Leave}
 use Rattle.changes.specs.Records.{dispatched}
 use Rattle.changes.specs.Changes.{found_in, admitted, ran, preempted, blocked, woken, masked, offlined, changed}
 
 -- each of the four numbers is told of a vCPU that is there, and of one state alone
-pub record TellsState (found : MaybeState) (number : ℕ) : Type 0 where
+pub record TellsState (found : Option RunState) (number : ℕ) : Type 0 where
   pub offline : number ≡ told FoundOffline → found ≡ Some Offline
   pub runnable : number ≡ told FoundRunnable → found ≡ Some Runnable
   pub running : number ≡ told FoundRunning → (p : ℕ) × (found ≡ Some (Running p))
   pub blocked : number ≡ told FoundBlocked → found ≡ Some Blocked
 
 -- a number that is none of the four tells nothing
-pub unfound : (m : MaybeState) (n : ℕ) → n ≢ told FoundRunnable → n < told FoundOffline → TellsState m n
+pub unfound : (m : Option RunState) (n : ℕ) → n ≢ told FoundRunnable → n < told FoundOffline → TellsState m n
 unfound m n other l =
     record {
       offline = λ e. absurd (omega arith);
@@ -34,10 +33,10 @@ unfound m n other l =
       blocked = λ e. absurd (omega arith);
     }
 
-pub done-tells : (m : MaybeState) → TellsState m (told Done)
+pub done-tells : (m : Option RunState) → TellsState m (told Done)
 done-tells m = unfound m (told Done) (λ e. omega arith) (omega arith)
 
-pub unsound-tells : (m : MaybeState) → TellsState m (told Unsound)
+pub unsound-tells : (m : Option RunState) → TellsState m (told Unsound)
 unsound-tells m = unfound m (told Unsound) (λ e. omega arith) (omega arith)
 
 found-tells : (st : RunState) → TellsState (Some st) (told (found_in st))
@@ -70,14 +69,14 @@ found-tells Blocked =
       blocked = λ e. refl;
     }
 
--- a change that refuses tells the state
-abbrev pub RefusalTells : RunState → Change → Type 0
-RefusalTells st (Refuse a) = TellsState (Some st) (told a)
-RefusalTells st (Write v) = Unit {0}
-RefusalTells st (Enter v p) = Unit {0}
-RefusalTells st (Leave v p) = Unit {0}
+-- a request that is refused tells the state
+abbrev pub RefusalTells : RunState → Result Change Answer → Type 0
+RefusalTells st (Err a) = TellsState (Some st) (told a)
+RefusalTells st (Ok (Write v)) = Unit {0}
+RefusalTells st (Ok (Enter v p)) = Unit {0}
+RefusalTells st (Ok (Leave v p)) = Unit {0}
 
-off-mask : (st : RunState) (b : Bool) (c : Change) → RefusalTells st c → RefusalTells st (cond b c (Refuse NotAffine))
+off-mask : (st : RunState) (b : Bool) (c : Result Change Answer) → RefusalTells st c → RefusalTells st (cond b c (Err NotAffine))
 off-mask st true c t = t
 off-mask st false c t = unfound (Some st) (told NotAffine) (λ e. omega arith) (omega arith)
 
@@ -90,7 +89,7 @@ module _ (v : VirtualCpu) where
 
   run-tells : (p now : ℕ) (st : RunState) → RefusalTells st (ran v p now st)
   run-tells p now Offline = found-tells Offline
-  run-tells p now Runnable = off-mask Runnable (permits v.affinity p) (Enter (dispatched v p now) p) tt
+  run-tells p now Runnable = off-mask Runnable (permits v.affinity p) (Ok (Enter (dispatched v p now) p)) tt
   run-tells p now (Running q) = found-tells (Running q)
   run-tells p now Blocked = found-tells Blocked
 
@@ -115,7 +114,7 @@ module _ (v : VirtualCpu) where
   mask-tells : (m : ℕ) (st : RunState) → RefusalTells st (masked v m st)
   mask-tells m Offline = tt
   mask-tells m Runnable = tt
-  mask-tells m (Running p) = off-mask (Running p) (permits m p) (Write (with_mask v m)) tt
+  mask-tells m (Running p) = off-mask (Running p) (permits m p) (Ok (Write (with_mask v m))) tt
   mask-tells m Blocked = tt
 
   offline-tells : (full now : ℕ) (st : RunState) → RefusalTells st (offlined v full now st)

@@ -3,34 +3,24 @@
 
 #![tactic(auto)]
 
-ghost use Rattle.std.specs.Prelude.{◌≡◌, ◌+◌, ◌-◌, ◌^◌, min};
-ghost use Rattle.system.specs.Records.{with_mask};
-ghost use Rattle.changes.specs.Records.{with_state, dispatched, left, forgotten};
+ghost use Rattle.std.specs.Prelude.{◌≡◌};
+ghost use Rattle.changes.specs.Records.{dispatched, left, forgotten};
 ghost use Rattle.changes.specs.Changes.{found_in, admitted, ran, preempted, blocked, woken, masked, offlined};
 ghost use Rattle.changes.specs.Changes.{changed, reaches, kept, stored};
 
 use calls::Request;
-use system::{
-    Answer, NO_PCPU, Occupant, Pcpu, PhysicalCpu, RunState, Ticks, VirtualCpu, elapsed, is_idle,
-};
+use system::{Answer, NO_PCPU, Occupant, Pcpu, PhysicalCpu, RunState, Ticks, VirtualCpu};
 
-/// What a request does to its vCPU: it is refused, or the vCPU's record is written anew, as it goes
-/// onto a pCPU or leaves one too.
+/// What a request that is not refused does to its vCPU: the record is written anew, as the vCPU goes onto
+/// a pCPU or leaves one too.
 #[derive(Clone, Copy)]
 pub enum Change {
-    Refuse(Answer),
     Write(VirtualCpu),
     Enter { vcpu: VirtualCpu, pcpu: Pcpu },
     Leave { vcpu: VirtualCpu, pcpu: Pcpu },
 }
 
 // ---- a vCPU's record made anew
-
-fn held_sum(a: u64, b: u64) -> u64
-    ensures { result ≡ min (a + b) (2 ^ 64 - 1) }
-{
-    if b <= u64::MAX - a { a + b } else { u64::MAX }
-}
 
 /// The vCPU put onto a pCPU: its interval opens, and that pCPU is the one that it was last on.
 #[tactic(auto, unfolding(crate::specs::Records::dispatched))]
@@ -39,10 +29,9 @@ pub fn dispatched(v: VirtualCpu, pcpu: Pcpu, now: Ticks) -> VirtualCpu
 {
     VirtualCpu {
         state: RunState::Running { pcpu },
-        runtime: v.runtime,
         dispatched_at: now,
-        affinity: v.affinity,
         last: pcpu,
+        ..v
     }
 }
 
@@ -53,162 +42,134 @@ pub fn left(v: VirtualCpu, state: RunState, now: Ticks) -> VirtualCpu
 {
     VirtualCpu {
         state,
-        runtime: held_sum(v.runtime, elapsed(v, now)),
-        dispatched_at: v.dispatched_at,
-        affinity: v.affinity,
-        last: v.last,
+        runtime: v.runtime.saturating_add(v.elapsed(now)),
+        ..v
     }
-}
-
-fn with_state(v: VirtualCpu, state: RunState) -> VirtualCpu
-    ensures { result ≡ with_state v state }
-{
-    VirtualCpu {
-        state,
-        runtime: v.runtime,
-        dispatched_at: v.dispatched_at,
-        affinity: v.affinity,
-        last: v.last,
-    }
-}
-
-fn with_mask(v: VirtualCpu, affinity: u64) -> VirtualCpu
-    ensures { result ≡ with_mask v affinity }
-{
-    let mut w = v;
-    w.affinity = affinity;
-    w
 }
 
 // A vCPU admitted later carries nothing of its past: every pCPU is admitted, and it was last on none.
 fn forgotten(v: VirtualCpu, full: u64) -> VirtualCpu
     ensures { result ≡ forgotten v full }
 {
-    let mut w = v;
-    w.affinity = full;
-    w.last = NO_PCPU;
-    w
+    VirtualCpu {
+        affinity: full,
+        last: NO_PCPU,
+        ..v
+    }
 }
 
 // ---- what each request does
 
 // What is told of a vCPU found in a state that the call does not accept.
-fn found_in(state: RunState) -> Change
-    ensures { result ≡ Change.Refuse (found_in state) }
+fn found_in(state: RunState) -> Answer
+    ensures { result ≡ found_in state }
 {
     match state {
-        RunState::Offline => Change::Refuse(Answer::FoundOffline),
-        RunState::Runnable => Change::Refuse(Answer::FoundRunnable),
-        RunState::Running { pcpu: _ } => Change::Refuse(Answer::FoundRunning),
-        RunState::Blocked => Change::Refuse(Answer::FoundBlocked),
+        RunState::Offline => Answer::FoundOffline,
+        RunState::Runnable => Answer::FoundRunnable,
+        RunState::Running { .. } => Answer::FoundRunning,
+        RunState::Blocked => Answer::FoundBlocked,
     }
 }
 
-fn admitted(v: VirtualCpu) -> Change
+fn admitted(v: VirtualCpu) -> Result<Change, Answer>
     ensures { result ≡ admitted v v.state }
 {
-    let state = v.state;
-    match state {
-        RunState::Offline => Change::Write(with_state(v, RunState::Runnable)),
-        RunState::Runnable | RunState::Running { pcpu: _ } | RunState::Blocked => found_in(state),
+    match v.state {
+        RunState::Offline => Ok(Change::Write(VirtualCpu {
+            state: RunState::Runnable,
+            ..v
+        })),
+        _ => Err(found_in(v.state)),
     }
 }
 
 // Who holds the pCPU is tested later, by `stored`: an off-mask dispatch has one reason, whoever is there.
-#[tactic(auto, unfolding(crate::specs::Records::dispatched))]
-fn ran(v: VirtualCpu, pcpu: Pcpu, now: Ticks) -> Change
+fn ran(v: VirtualCpu, pcpu: Pcpu, now: Ticks) -> Result<Change, Answer>
     ensures { result ≡ ran v pcpu now v.state }
 {
-    let state = v.state;
-    match state {
-        RunState::Runnable => {
-            if masks::mask_permits(v.affinity, pcpu) {
-                Change::Enter {
-                    vcpu: dispatched(v, pcpu, now),
-                    pcpu,
-                }
-            } else {
-                Change::Refuse(Answer::NotAffine)
-            }
-        }
-        RunState::Offline | RunState::Running { pcpu: _ } | RunState::Blocked => found_in(state),
+    match v.state {
+        RunState::Runnable if !masks::mask_permits(v.affinity, pcpu) => Err(Answer::NotAffine),
+        RunState::Runnable => Ok(Change::Enter {
+            vcpu: dispatched(v, pcpu, now),
+            pcpu,
+        }),
+        _ => Err(found_in(v.state)),
     }
 }
 
-fn preempted(v: VirtualCpu, now: Ticks) -> Change
+fn preempted(v: VirtualCpu, now: Ticks) -> Result<Change, Answer>
     ensures { result ≡ preempted v now v.state }
 {
-    let state = v.state;
-    match state {
-        RunState::Running { pcpu } => Change::Leave {
+    match v.state {
+        RunState::Running { pcpu } => Ok(Change::Leave {
             vcpu: left(v, RunState::Runnable, now),
             pcpu,
-        },
-        RunState::Offline | RunState::Runnable | RunState::Blocked => found_in(state),
+        }),
+        _ => Err(found_in(v.state)),
     }
 }
 
-fn blocked(v: VirtualCpu, now: Ticks) -> Change
+fn blocked(v: VirtualCpu, now: Ticks) -> Result<Change, Answer>
     ensures { result ≡ blocked v now v.state }
 {
-    let state = v.state;
-    match state {
-        RunState::Runnable => Change::Write(with_state(v, RunState::Blocked)),
-        RunState::Running { pcpu } => Change::Leave {
+    match v.state {
+        RunState::Runnable => Ok(Change::Write(VirtualCpu {
+            state: RunState::Blocked,
+            ..v
+        })),
+        RunState::Running { pcpu } => Ok(Change::Leave {
             vcpu: left(v, RunState::Blocked, now),
             pcpu,
-        },
-        RunState::Offline | RunState::Blocked => found_in(state),
+        }),
+        _ => Err(found_in(v.state)),
     }
 }
 
-fn woken(v: VirtualCpu) -> Change
+fn woken(v: VirtualCpu) -> Result<Change, Answer>
     ensures { result ≡ woken v v.state }
 {
-    let state = v.state;
-    match state {
-        RunState::Blocked => Change::Write(with_state(v, RunState::Runnable)),
-        RunState::Offline | RunState::Runnable | RunState::Running { pcpu: _ } => found_in(state),
+    match v.state {
+        RunState::Blocked => Ok(Change::Write(VirtualCpu {
+            state: RunState::Runnable,
+            ..v
+        })),
+        _ => Err(found_in(v.state)),
     }
 }
 
 // A new mask is refused where it would strand the vCPU on its pCPU.
-fn masked(v: VirtualCpu, mask: u64) -> Change
+fn masked(v: VirtualCpu, mask: u64) -> Result<Change, Answer>
     ensures { result ≡ masked v mask v.state }
 {
-    let state = v.state;
-    match state {
-        RunState::Offline => Change::Write(with_mask(v, mask)),
-        RunState::Runnable => Change::Write(with_mask(v, mask)),
-        RunState::Running { pcpu } => {
-            if masks::mask_permits(mask, pcpu) {
-                Change::Write(with_mask(v, mask))
-            } else {
-                Change::Refuse(Answer::NotAffine)
-            }
-        }
-        RunState::Blocked => Change::Write(with_mask(v, mask)),
+    match v.state {
+        RunState::Running { pcpu } if !masks::mask_permits(mask, pcpu) => Err(Answer::NotAffine),
+        _ => Ok(Change::Write(VirtualCpu {
+            affinity: mask,
+            ..v
+        })),
     }
 }
 
-fn offlined(v: VirtualCpu, full: u64, now: Ticks) -> Change
+fn offlined(v: VirtualCpu, full: u64, now: Ticks) -> Result<Change, Answer>
     ensures { result ≡ offlined v full now v.state }
 {
-    let state = v.state;
-    match state {
-        RunState::Runnable => Change::Write(forgotten(with_state(v, RunState::Offline), full)),
-        RunState::Running { pcpu } => Change::Leave {
-            vcpu: forgotten(left(v, RunState::Offline, now), full),
+    let down = RunState::Offline;
+    match v.state {
+        RunState::Offline => Err(found_in(v.state)),
+        RunState::Running { pcpu } => Ok(Change::Leave {
+            vcpu: forgotten(left(v, down, now), full),
             pcpu,
-        },
-        RunState::Blocked => Change::Write(forgotten(with_state(v, RunState::Offline), full)),
-        RunState::Offline => found_in(state),
+        }),
+        RunState::Runnable | RunState::Blocked => {
+            Ok(Change::Write(forgotten(VirtualCpu { state: down, ..v }, full)))
+        }
     }
 }
 
-/// What a request does to the vCPU whose record is `v`, on a host of so many pCPUs: a new mask is
-/// clipped to them.
-pub fn changed(request: Request, v: VirtualCpu, pcpu_count: usize) -> Change
+/// What a request does to the vCPU whose record is `v`, on a host of so many pCPUs, or why it is refused:
+/// a new mask is clipped to the pCPUs.
+pub fn changed(request: Request, v: VirtualCpu, pcpu_count: usize) -> Result<Change, Answer>
     ensures { result ≡ changed request pcpu_count v }
 {
     match request {
@@ -244,35 +205,28 @@ pub fn kept(answer: Answer, v: VirtualCpu, c: PhysicalCpu) -> After
     }
 }
 
-/// A change of the vCPU `who`, where `v` is its record and `c` the change's pCPU.
-pub fn stored(change: Change, who: Occupant, v: VirtualCpu, c: PhysicalCpu) -> After
+/// A change of the vCPU `who`, or its refusal, where `v` is its record and `c` the change's pCPU.
+pub fn stored(change: Result<Change, Answer>, who: Occupant, v: VirtualCpu, c: PhysicalCpu) -> After
     ensures { result ≡ stored change who v c }
 {
+    let answer = Answer::Done;
     match change {
-        Change::Refuse(answer) => kept(answer, v, c),
-        Change::Write(w) => After {
-            answer: Answer::Done,
-            vcpu: w,
+        Err(refusal) => kept(refusal, v, c),
+        Ok(Change::Write(vcpu)) => After {
+            answer,
+            vcpu,
             pcpu: c,
         },
-        Change::Enter { vcpu, pcpu: _ } => {
-            let o = c.occupant;
-            if is_idle(o) {
-                After {
-                    answer: Answer::Done,
-                    vcpu,
-                    pcpu: PhysicalCpu { occupant: who },
-                }
-            } else {
-                kept(Answer::PcpuBusy, v, c)
-            }
-        }
-        Change::Leave { vcpu, pcpu: _ } => After {
-            answer: Answer::Done,
+        Ok(Change::Enter { .. }) if !c.occupant.is_idle() => kept(Answer::PcpuBusy, v, c),
+        Ok(Change::Enter { vcpu, .. }) => After {
+            answer,
             vcpu,
-            pcpu: PhysicalCpu {
-                occupant: Occupant::Idle,
-            },
+            pcpu: PhysicalCpu { occupant: who },
+        },
+        Ok(Change::Leave { vcpu, .. }) => After {
+            answer,
+            vcpu,
+            pcpu: PhysicalCpu::IDLE,
         },
     }
 }
@@ -282,12 +236,7 @@ pub fn reaches(request: Request, pcpu_count: usize) -> bool
     ensures { result ≡ reaches request pcpu_count }
 {
     match request {
-        Request::Admit => true,
-        Request::Run { pcpu, now: _ } => (pcpu as usize) < pcpu_count,
-        Request::Preempt { now: _ } => true,
-        Request::Block { now: _ } => true,
-        Request::Wake => true,
-        Request::SetAffinity { mask: _ } => true,
-        Request::Offline { now: _ } => true,
+        Request::Run { pcpu, .. } => (pcpu as usize) < pcpu_count,
+        _ => true,
     }
 }

@@ -1,4 +1,5 @@
 -- A host before its first advance: nobody has run, masks are full, no offset and no snapshot is set. Assumes nothing.
+use Rattle.std.specs.Prelude.{Result, Ok, Err}
 use Prim.Native.Nat.{ℕ, zero, suc, ◌+◌, ◌*◌, ◌≤◌, ◌<◌}
 use mathlib.Core.Bool.{false≢true}
 use mathlib.Core.Path.{◌≡◌, refl, sym, ◌∙◌, ap, subst}
@@ -11,6 +12,7 @@ use Rattle.system.specs.declared.RunState.TheVariants.{Offline, Runnable, Runnin
 use Rattle.system.specs.declared.VirtualCpu.{VirtualCpu}
 use Rattle.system.specs.declared.Occupant.{Occupant}
 use Rattle.system.specs.declared.System.{System}
+use Rattle.system.specs.declared.Answer.{Answer}
 use Rattle.system.specs.Reads.{vcpu_at, full_affinity, state_at}
 use Rattle.system.specs.Writes.{Tables, Wrote, wrote-vcpu, present-back, present-on}
 use Rattle.system.specs.Slots.{domains, vcpus, slot, Present, slot-below}
@@ -19,7 +21,7 @@ use Rattle.verdict.specs.Sound.{Sound}
 use Rattle.system.specs.Records.{with_mask}
 use Rattle.calls.specs.declared.Request.{Request}
 use Rattle.changes.specs.declared.Change.{Change}
-use Rattle.changes.specs.declared.Change.TheVariants.{Refuse, Write, Enter, Leave}
+use Rattle.changes.specs.declared.Change.TheVariants.{Write, Enter, Leave}
 use Rattle.sched.specs.Steps.{change_of, applied, requested, offline_first, offline_all}
 use Rattle.sched.proofs.Laws.{NotRunning, off_nr, ready_nr, blocked_nr, requested_case, offline-all_case, first-keeps}
 use Rattle.changes.specs.Records.{with_state, forgotten}
@@ -48,19 +50,19 @@ unrun-wrote {s} {s'} {i} {p} {v} Y k n = record { new = λ j h. go j h (ℕ_disc
     go j h (no m) = subst (New (full_affinity s')) (sym (k.there j m)) (subst (λ (f : ℕ). New f (vcpu_at s j)) (sym full) (Y.new j (present-back k.shape h)))
 
 -- a change that leaves such a record, or does nothing
-abbrev StaysUnrun : ℕ → Change → Type 0
-StaysUnrun full (Refuse a) = Unit {0}
-StaysUnrun full (Write v) = New full v
-StaysUnrun full (Enter v p) = ⊥
-StaysUnrun full (Leave v p) = ⊥
+abbrev StaysUnrun : ℕ → Result Change Answer → Type 0
+StaysUnrun full (Err a) = Unit {0}
+StaysUnrun full (Ok (Write v)) = New full v
+StaysUnrun full (Ok (Enter v p)) = ⊥
+StaysUnrun full (Ok (Leave v p)) = ⊥
 
-applied-unrun : {s : System} {i : ℕ} (c : Change) → Tables s → Unrun s → Present s i → StaysUnrun (full_affinity s) c
+applied-unrun : {s : System} {i : ℕ} (c : Result Change Answer) → Tables s → Unrun s → Present s i → StaysUnrun (full_affinity s) c
     → Unrun (applied s i c).system
 unfolding applied
-applied-unrun (Refuse a) t Y h n = Y
-applied-unrun {s} {i} (Write v) t Y h n = unrun-wrote Y (wrote-vcpu s i v 0 t (slot-below h)) n
-applied-unrun (Enter v p) t Y h n = absurd n
-applied-unrun (Leave v p) t Y h n = absurd n
+applied-unrun (Err a) t Y h n = Y
+applied-unrun {s} {i} (Ok (Write v)) t Y h n = unrun-wrote Y (wrote-vcpu s i v 0 t (slot-below h)) n
+applied-unrun (Ok (Enter v p)) t Y h n = absurd n
+applied-unrun (Ok (Leave v p)) t Y h n = absurd n
 
 module _ {full : ℕ} {v : VirtualCpu} (n : New full v) where
   -- it is not Running

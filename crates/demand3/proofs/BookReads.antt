@@ -1,4 +1,5 @@
 -- Every read of a sound system that agrees with the book gives what the book says. Assumes nothing.
+use Rattle.std.specs.Prelude.{Option, None, Some}
 use Prim.Native.Nat.{ℕ, ◌+◌, ◌-◌, ◌%◌, ◌^◌, ◌≤◌, ◌<◌}
 use mathlib.Core.Bool.{Bool, true, false, cond, not, ◌&&◌, and-false}
 use mathlib.Core.Path.{◌≡◌, refl, sym, ◌∙◌, ap, ap₂}
@@ -14,9 +15,6 @@ use Rattle.system.specs.declared.RunState.TheVariants.{Offline, Runnable, Runnin
 use Rattle.system.specs.declared.VirtualCpu.{VirtualCpu}
 use Rattle.system.specs.declared.Occupant.{Occupant}
 use Rattle.system.specs.declared.System.{System}
-use Rattle.system.specs.declared.MaybeVcpu.{MaybeVcpu}
-use Rattle.system.specs.declared.MaybeState.{MaybeState}
-use Rattle.system.specs.declared.MaybeU64.{MaybeU64}
 use Rattle.system.specs.Records.{flight, in_flight, runtime_until}
 use Rattle.system.specs.States.{while_running}
 use Rattle.system.specs.Slots.{domains, vcpus, pcpus, slot}
@@ -50,10 +48,10 @@ clipped_bits m n p h = go (ltb p n) refl
 
 -- since when, by a line that says what a record has
 since-says : {l : Line} {v : VirtualCpu} → LineSays l v → (st : RunState) → v.state ≡ st
-    → since st v.dispatched_at ≡ while_running st (λ p. MaybeU64.Some l.clock) MaybeU64.None
+    → since st v.dispatched_at ≡ while_running st (λ p. Some l.clock) None
 since-says y Offline e = refl
 since-says y Runnable e = refl
-since-says y (Running p) e = ap MaybeU64.Some (sym (y.clock p e))
+since-says y (Running p) e = ap Some (sym (y.clock p e))
 since-says y Blocked e = refl
 
 -- and its service at a reading
@@ -79,12 +77,12 @@ module _ {k : Shape} {b : Book} {s : System} (A : Agrees k b s) (S : Sound s) wh
   same-pcpus : pcpus s ≡ k.pcpus
   same-pcpus = shaped-pcpus A.shape S
 
-  found : (d v : ℕ) → d < k.domains → v < k.vcpus → vcpu_of s d v ≡ MaybeVcpu.Some (vcpu_at s (slot d v))
+  found : (d v : ℕ) → d < k.domains → v < k.vcpus → vcpu_of s d v ≡ Some (vcpu_at s (slot d v))
   unfolding vcpu_of
   found d v l m =
       rw (lt-ltb d (domains s) (omega (arith, same-domains)), lt-ltb v (vcpus s) (omega (arith, same-vcpus)))
 
-  not_found : (d v : ℕ) → (k.domains ≤ d) ⊎ (k.vcpus ≤ v) → vcpu_of s d v ≡ MaybeVcpu.None
+  not_found : (d v : ℕ) → (k.domains ≤ d) ⊎ (k.vcpus ≤ v) → vcpu_of s d v ≡ None
   unfolding vcpu_of
   not_found d v (inl l) = rw (le-ltb d (domains s) (omega (arith, same-domains)))
   not_found d v (inr l) = rw (le-ltb v (vcpus s) (omega (arith, same-vcpus)), and-false (ltb d (domains s)))
@@ -100,20 +98,20 @@ module _ {k : Shape} {b : Book} {s : System} (A : Agrees k b s) (S : Sound s) wh
         read = vcpu_at s (slot d v);
         vcpu = f;
         says = y;
-        state = ap state_in f ∙ ap MaybeState.Some (sym y.state);
-        running = ap (λ (x : MaybeVcpu). runs (state_in x)) f ∙ ap (λ (st : RunState). while_running st (λ p. true) false) (sym y.state);
-        runtime = ap runtime_in f ∙ ap MaybeU64.Some (sym y.time);
+        state = ap state_in f ∙ ap Some (sym y.state);
+        running = ap (λ (x : Option VirtualCpu). runs (state_in x)) f ∙ ap (λ (st : RunState). while_running st (λ p. true) false) (sym y.state);
+        runtime = ap runtime_in f ∙ ap Some (sym y.time);
         since =
             ap since_in f ∙ (since-says y (vcpu_at s (slot d v)).state refl
-            ∙ ap (λ (st : RunState). while_running st (λ p. MaybeU64.Some (b (slot d v)).clock) MaybeU64.None) (sym y.state));
-        affinity = ap affinity_in f ∙ ap MaybeU64.Some (sym y.mask);
+            ∙ ap (λ (st : RunState). while_running st (λ p. Some (b (slot d v)).clock) None) (sym y.state));
+        affinity = ap affinity_in f ∙ ap Some (sym y.mask);
         permits = λ p.
-            ap₂ (λ (n : ℕ) (x : MaybeVcpu). ltb p n && permits_in x p) same-pcpus f
+            ap₂ (λ (n : ℕ) (x : Option VirtualCpu). ltb p n && permits_in x p) same-pcpus f
             ∙ (ap (λ (x : ℕ). ltb p k.pcpus && permits x p) (sym y.mask)
             ∙ bit_below (b (slot d v)).mask k.pcpus p (omega (arith, S.pcpus, A.shape.pcpus)));
       }
     where
-      f : vcpu_of s d v ≡ MaybeVcpu.Some (vcpu_at s (slot d v))
+      f : vcpu_of s d v ≡ Some (vcpu_at s (slot d v))
       f = found d v l m
 
       y : LineSays (b (slot d v)) (vcpu_at s (slot d v))
@@ -125,11 +123,11 @@ module _ {k : Shape} {b : Book} {s : System} (A : Agrees k b s) (S : Sound s) wh
       record {
         vcpu = f;
         state = ap state_in f;
-        running = ap (λ (x : MaybeVcpu). runs (state_in x)) f;
+        running = ap (λ (x : Option VirtualCpu). runs (state_in x)) f;
         runtime = ap runtime_in f;
         since = ap since_in f;
         affinity = ap affinity_in f;
-        permits = λ p. ap (λ (x : MaybeVcpu). ltb p (pcpus s) && permits_in x p) f ∙ and-false (ltb p (pcpus s));
+        permits = λ p. ap (λ (x : Option VirtualCpu). ltb p (pcpus s) && permits_in x p) f ∙ and-false (ltb p (pcpus s));
       }
 
   reads-used : (d r : ℕ) → d < k.domains → usage s d r ≡ sum (λ v. book_service b r (slot d v)) k.vcpus

@@ -1,4 +1,5 @@
 -- A departure: whoever is left in the pool is as before. Assumes nothing.
+use Rattle.std.specs.Prelude.{Result, Ok, Err}
 use Prim.Native.Nat.{ℕ, zero, suc, ◌≤◌, ◌<◌}
 use mathlib.Core.Bool.{false, false≢true}
 use mathlib.Core.Path.{◌≡◌, refl, sym, ◌∙◌, ap, subst}
@@ -10,6 +11,7 @@ use Rattle.system.specs.declared.RunState.TheVariants.{Offline, Runnable, Runnin
 use Rattle.system.specs.declared.VirtualCpu.{VirtualCpu}
 use Rattle.system.specs.declared.Occupant.{Occupant}
 use Rattle.system.specs.declared.System.{System}
+use Rattle.system.specs.declared.Answer.{Answer}
 use Rattle.system.specs.Answers.{SystemOutcome}
 use Rattle.system.specs.Reads.{vcpu_at, full_affinity, state_at}
 use Rattle.system.specs.Writes.{Tables, SameShape, shape-refl, shape-trans, Wrote, present-back, present-on}
@@ -19,7 +21,7 @@ use Rattle.system.specs.States.{schedulable}
 use Rattle.verdict.specs.Sound.{Sound}
 use Rattle.calls.specs.declared.Request.{Request}
 use Rattle.changes.specs.declared.Change.{Change}
-use Rattle.changes.specs.declared.Change.TheVariants.{Refuse, Write, Enter, Leave}
+use Rattle.changes.specs.declared.Change.TheVariants.{Write, Enter, Leave}
 use Rattle.changes.specs.Records.{left}
 use Rattle.sched.specs.Steps.{requested, offline_first, offline_all}
 use Rattle.sched.proofs.Laws.{Legal, stays, keeps, busy, goes_on, goes_off, requested_case, offline-all_case}
@@ -78,11 +80,11 @@ shrinks_lag {w} {lim} {s} {s'} {now} x L =
 -- ---- who departs leaves the pool
 
 -- a change that leaves the vCPU outside the pool, or does nothing
-abbrev Leaves : Change → Type 0
-Leaves (Refuse a) = Unit {0}
-Leaves (Write v) = schedulable v.state ≡ false
-Leaves (Enter v p) = schedulable v.state ≡ false
-Leaves (Leave v p) = schedulable v.state ≡ false
+abbrev Leaves : Result Change Answer → Type 0
+Leaves (Err a) = Unit {0}
+Leaves (Ok (Write v)) = schedulable v.state ≡ false
+Leaves (Ok (Enter v p)) = schedulable v.state ≡ false
+Leaves (Ok (Leave v p)) = schedulable v.state ≡ false
 
 wrote_shrinks : {s s' : System} {i p : ℕ} {v : VirtualCpu} {o : Occupant} → Wrote s s' i v p o
     → schedulable v.state ≡ false → Shrinks s s'
@@ -92,7 +94,7 @@ wrote_shrinks {s} {s'} {i} {p} {v} k n = record { shape = k.shape; same = λ j h
     go j q (yes e) = absurd (false≢true (sym n ∙ (sym (ap (λ (x : VirtualCpu). schedulable x.state) (ap (vcpu_at s') e ∙ k.here)) ∙ q)))
     go j q (no m) = k.there j m
 
-legal_shrinks : {s : System} {i : ℕ} {c : Change} {r : SystemOutcome} → Tables s → Legal s i c r → Leaves c
+legal_shrinks : {s : System} {i : ℕ} {c : Result Change Answer} {r : SystemOutcome} → Tables s → Legal s i c r → Leaves c
     → Shrinks s r.system
 legal_shrinks {s} t (stays a) n = shrinks_refl s
 legal_shrinks t (keeps k w) n = wrote_shrinks (w t) n

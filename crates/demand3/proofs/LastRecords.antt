@@ -1,5 +1,6 @@
 -- What a request makes of the pCPU that a record was last on: kept, but for a dispatch and for one that goes Offline.
 -- Assumes nothing.
+use Rattle.std.specs.Prelude.{Result, Ok, Err}
 use Prim.Native.Nat.{ℕ}
 use mathlib.Core.Bool.{Bool, true, false, cond}
 use mathlib.Core.Path.{◌≡◌, refl, sym, ◌∙◌, ap}
@@ -7,11 +8,12 @@ use Rattle.masks.specs.Masks.{permits, full_mask, clipped}
 use Rattle.system.specs.declared.RunState.{RunState}
 use Rattle.system.specs.declared.RunState.TheVariants.{Offline, Runnable, Running, Blocked}
 use Rattle.system.specs.declared.VirtualCpu.{VirtualCpu}
+use Rattle.system.specs.declared.Answer.{Answer}
 use Rattle.system.specs.declared.Answer.TheVariants.{NotAffine}
 use Rattle.system.specs.Records.{no_pcpu, with_mask}
 use Rattle.calls.specs.declared.Request.{Request}
 use Rattle.changes.specs.declared.Change.{Change}
-use Rattle.changes.specs.declared.Change.TheVariants.{Refuse, Write, Enter, Leave}
+use Rattle.changes.specs.declared.Change.TheVariants.{Write, Enter, Leave}
 use Rattle.changes.specs.Records.{dispatched, left}
 use Rattle.changes.specs.Changes.{admitted, ran, preempted, blocked, woken, masked, offlined, changed}
 use Rattle.sched.proofs.Laws.{off_nr}
@@ -52,11 +54,11 @@ on-right {w} {p} l on =
 -- ---- each request
 
 -- of a change of v
-abbrev pub LastIn : VirtualCpu → Change → Type 0
-LastIn v (Refuse a) = Unit {0}
-LastIn v (Write w) = KeepsLast v w
-LastIn v (Enter w p) = w.last ≡ p
-LastIn v (Leave w p) = KeepsLast v w
+abbrev pub LastIn : VirtualCpu → Result Change Answer → Type 0
+LastIn v (Err a) = Unit {0}
+LastIn v (Ok (Write w)) = KeepsLast v w
+LastIn v (Ok (Enter w p)) = w.last ≡ p
+LastIn v (Ok (Leave w p)) = KeepsLast v w
 
 module _ (v : VirtualCpu) where
   admitted-last : (st : RunState) → LastIn v (admitted v st)
@@ -70,7 +72,7 @@ module _ (v : VirtualCpu) where
   ran-last p now Offline = tt
   ran-last p now Runnable = go (permits v.affinity p)
     where
-      go : (t : Bool) → LastIn v (cond t (Enter (dispatched v p now) p) (Refuse NotAffine))
+      go : (t : Bool) → LastIn v (cond t (Ok (Enter (dispatched v p now) p)) (Err NotAffine))
       go true = refl
       go false = tt
   ran-last p now (Running q) = tt
@@ -109,7 +111,7 @@ module _ (v : VirtualCpu) where
   masked-last y m Runnable = sym (right-offline y)
   masked-last y m (Running p) = go (permits m p)
     where
-      go : (t : Bool) → LastIn v (cond t (Write (with_mask v m)) (Refuse NotAffine))
+      go : (t : Bool) → LastIn v (cond t (Ok (Write (with_mask v m))) (Err NotAffine))
       go true = sym (right-offline y)
       go false = tt
   masked-last y m Blocked = sym (right-offline y)

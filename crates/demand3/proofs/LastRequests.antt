@@ -1,5 +1,6 @@
 -- A request and `offline_all` leave in each record the pCPU that the calls say the vCPU was last dispatched onto.
 -- Assumes nothing.
+use Rattle.std.specs.Prelude.{Result}
 use Prim.Native.Nat.{ℕ, zero, suc, ◌≤◌, ◌<◌}
 use mathlib.Core.Bool.{Bool, true, false, cond, not}
 use mathlib.Core.Path.{◌≡◌, refl, sym, ◌∙◌, ap, subst}
@@ -81,7 +82,7 @@ module _ {b : Book} {s : System} (L : Lines b s) (Y : Rights s) where
       go (no n) = rw (noted-there b i l j n, there j n) (ap of_record (w.there j n) ∙ same-last j h)
 
   -- a change that is made, and what the book notes of it
-  legal_follows : {i : ℕ} {c : Change} {r : SystemOutcome} {n : Note} → Tables s → Present s i → Legal s i c r
+  legal_follows : {i : ℕ} {c : Result Change Answer} {r : SystemOutcome} {n : Note} → Tables s → Present s i → Legal s i c r
       → Match s c n → LastIn (vcpu_at s i) c → Follows s r.system (entered b i n)
   unfolding latest_onto
   legal_follows t h (stays a) (both-refuse _) x = unwritten-follows (told a)

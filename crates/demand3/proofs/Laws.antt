@@ -21,8 +21,9 @@ pub use Rattle.demand3.proofs.Uncut.{machine_uncut}
 pub use Rattle.demand3.proofs.LastPcpu.{machine_keeps-last}
 -- as an advance returns, under any rule
 pub use Rattle.demand3.proofs.AfterAdvance.{after-advance}
--- it is in step with its book, and every call keeps it so; what a call enters is made line by line
-pub use Rattle.demand3.proofs.EveryCall.{Kept, step-goes, after_kept}
+-- it is in step with its book, and every call keeps it so; what a call enters is made line by line, and what an advance enters is
+-- never refused
+pub use Rattle.demand3.proofs.EveryCall.{Kept, step-goes, after_kept, moved-done}
 pub use Rattle.demand3.proofs.Entering.{Enters, call_enters}
 -- the moves of a trace are such as the mechanism allows
 pub use Rattle.demand3.proofs.ServiceMachine.{trace-enacts}

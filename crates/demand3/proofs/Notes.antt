@@ -1,5 +1,6 @@
 -- A change of the system and a note of the book match: both refuse with one number, or both write what says the same.
 -- Assumes nothing.
+use Rattle.std.specs.Prelude.{Result, Ok, Err}
 use Prim.Native.Nat.{ℕ, ◌<◌}
 use mathlib.Core.Bool.{Bool, true, false, cond, not}
 use mathlib.Core.Path.{◌≡◌, refl, sym, ◌∙◌, ap, subst, subst₂}
@@ -22,7 +23,7 @@ use Rattle.system.specs.Writes.{Tables, Wrote, present-back}
 use Rattle.system.specs.Slots.{Present}
 use Rattle.calls.specs.declared.Request.{Request}
 use Rattle.changes.specs.declared.Change.{Change}
-use Rattle.changes.specs.declared.Change.TheVariants.{Refuse, Write, Enter, Leave}
+use Rattle.changes.specs.declared.Change.TheVariants.{Write, Enter, Leave}
 use Rattle.changes.specs.Records.{with_state, dispatched, left, forgotten}
 use Rattle.changes.specs.Changes.{found_in, admitted, ran, preempted, blocked, woken, masked, offlined, changed}
 use Rattle.changes.specs.Changes.{reaches}
@@ -35,12 +36,12 @@ use Rattle.demand3.specs.Book.{admit_note, run_note, preempt_note, block_note, w
 use Rattle.demand3.specs.Book.{note_of}
 use Rattle.demand3.specs.Agreement.{LineSays, Lines}
 
-pub data Match (s : System) : Change → Note → Type 0 where
-  both-refuse : (a : Answer) → Match s (Refuse a) (refuse (told a))
-  both-write : {v : VirtualCpu} {l : Line} → LineSays l v → Match s (Write v) (write l)
+pub data Match (s : System) : Result Change Answer → Note → Type 0 where
+  both-refuse : (a : Answer) → Match s (Err a) (refuse (told a))
+  both-write : {v : VirtualCpu} {l : Line} → LineSays l v → Match s (Ok (Write v)) (write l)
   both-enter : {v : VirtualCpu} {p : ℕ} {l : Line} (now : ℕ) (taken : Bool) → taken ≡ not (is_idle (occupant_at s p))
-      → LineSays l v → Match s (Enter v p) (cond taken (refuse 5) (move onto p now l))
-  both-leave : {v : VirtualCpu} {p now : ℕ} {l : Line} → LineSays l v → Match s (Leave v p) (move off p now l)
+      → LineSays l v → Match s (Ok (Enter v p)) (cond taken (refuse 5) (move onto p now l))
+  both-leave : {v : VirtualCpu} {p now : ℕ} {l : Line} → LineSays l v → Match s (Ok (Leave v p)) (move off p now l)
 
 -- ---- lines and records made anew say the same
 
@@ -99,7 +100,7 @@ module _ (s : System) {l : Line} {v : VirtualCpu} (y : LineSays l v) where
   mask_match m (Running p) e = go (permits m p)
     where
       go : (b : Bool)
-          → Match s (cond b (Write (with_mask v m)) (Refuse NotAffine)) (cond b (write (remasked l m)) (refuse 6))
+          → Match s (cond b (Ok (Write (with_mask v m))) (Err NotAffine)) (cond b (write (remasked l m)) (refuse 6))
       go true = both-write (new-mask y m)
       go false = both-refuse NotAffine
   mask_match m Blocked e = both-write (new-mask y m)
@@ -119,14 +120,14 @@ module _ (s : System) {l : Line} {v : VirtualCpu} (y : LineSays l v) where
       (go (permits v.affinity p))
     where
       go : (b : Bool)
-          → Match s (cond b (Enter (dispatched v p now) p) (Refuse NotAffine)) (cond b (cond taken (refuse 5) (move onto p now (opened l p now))) (refuse 6))
+          → Match s (cond b (Ok (Enter (dispatched v p now) p)) (Err NotAffine)) (cond b (cond taken (refuse 5) (move onto p now (opened l p now))) (refuse 6))
       go true = both-enter now taken f (on-pcpu y p now)
       go false = both-refuse NotAffine
   run_match p now taken f (Running q) = both-refuse (found_in (Running q))
   run_match p now taken f Blocked = both-refuse (found_in Blocked)
 
   -- the book goes by its own state, which is the system's
-  by_state : {c : Change} (note : RunState → Note) → Match s c (note v.state) → Match s c (note l.state)
+  by_state : {c : Result Change Answer} (note : RunState → Note) → Match s c (note v.state) → Match s c (note l.state)
   by_state {c} note m = subst (λ (st : RunState). Match s c (note st)) (sym y.state) m
 
   pub offline-noted : (n now : ℕ)
@@ -169,7 +170,7 @@ pub record Alike (r : SystemOutcome) (e : Entry) : Type 0 where
   pub number : r.number ≡ e.number
   pub lines : Lines e.book r.system
 
-pub legal_alike : {s : System} {b : Book} {i : ℕ} {c : Change} {r : SystemOutcome} {n : Note} → Tables s
+pub legal_alike : {s : System} {b : Book} {i : ℕ} {c : Result Change Answer} {r : SystemOutcome} {n : Note} → Tables s
     → Legal s i c r → Lines b s → Match s c n → Alike r (entered b i n)
 legal_alike t (stays a) L (both-refuse _) = record { number = refl; lines = L }
 legal_alike t (keeps k w) L (both-write y) = record { number = refl; lines = wrote-lines L (w t) y }

@@ -1,17 +1,13 @@
 -- What each read of a system gives by the book alone, for ids and readings of any size.
-use Rattle.std.specs.Prelude.{ℕ, ◌+◌, ◌-◌, ◌*◌, ◌^◌, ◌≤◌, ◌<◌, true, false, cond, ◌&&◌, ◌≡◌, ◌⊎◌, ltb}
+use Rattle.std.specs.Prelude.{ℕ, ◌+◌, ◌-◌, ◌*◌, ◌^◌, ◌≤◌, ◌<◌, true, false, cond, ◌&&◌, ◌≡◌, ◌⊎◌, ltb, None, Some}
 use Rattle.masks.specs.Masks.{bit}
 use Rattle.system.specs.declared.VirtualCpu.{VirtualCpu}
 use Rattle.system.specs.declared.Occupant.TheVariants.{Idle}
 use Rattle.system.specs.declared.System.{System}
-use Rattle.system.specs.declared.MaybeVcpu.{MaybeVcpu}
-use Rattle.system.specs.declared.MaybeState.{MaybeState}
-use Rattle.system.specs.declared.MaybeU64.{MaybeU64}
 use Rattle.system.specs.States.{while_running}
 use Rattle.system.specs.Slots as slots
 use Rattle.system.specs.Reads.{vcpu_of, state_of, is_running, runtime_of, on_cpu_since, affinity_of, affinity_permits}
 use Rattle.system.specs.Reads.{occupant_of, vcpu_count, full_affinity, busy_pcpus, count}
-use Rattle.verdict.specs.declared.Violation.TheVariants.{None}
 use Rattle.verdict.specs.Violations.{first_violation}
 use Rattle.scans.specs.Scan.{some}
 use Rattle.usage.specs.Usage.{sum, usage}
@@ -23,26 +19,26 @@ use Rattle.demand3.specs.Lists.{book_service}
 pub record ReadsLine (s : System) (d v n : ℕ) (l : Line) : Type 0 where
   -- its record
   pub read : VirtualCpu
-  pub vcpu : vcpu_of s d v ≡ MaybeVcpu.Some read
+  pub vcpu : vcpu_of s d v ≡ Some read
   pub says : LineSays l read
   -- its parts
-  pub state : state_of s d v ≡ MaybeState.Some l.state
+  pub state : state_of s d v ≡ Some l.state
   pub running : is_running s d v ≡ while_running l.state (λ p. true) false
-  pub runtime : runtime_of s d v ≡ MaybeU64.Some l.time
+  pub runtime : runtime_of s d v ≡ Some l.time
   -- the clock of its run, while Running
-  pub since : on_cpu_since s d v ≡ while_running l.state (λ p. MaybeU64.Some l.clock) MaybeU64.None
-  pub affinity : affinity_of s d v ≡ MaybeU64.Some l.mask
+  pub since : on_cpu_since s d v ≡ while_running l.state (λ p. Some l.clock) None
+  pub affinity : affinity_of s d v ≡ Some l.mask
   -- bit p of its mask, for a pCPU that is there
   pub permits : (p : ℕ) → affinity_permits s d v p ≡ (ltb p n && bit l.mask p)
 
 -- the reads of d/v, which is not there
 pub record ReadsAbsent (s : System) (d v : ℕ) : Type 0 where
-  pub vcpu : vcpu_of s d v ≡ MaybeVcpu.None
-  pub state : state_of s d v ≡ MaybeState.None
+  pub vcpu : vcpu_of s d v ≡ None
+  pub state : state_of s d v ≡ None
   pub running : is_running s d v ≡ false
-  pub runtime : runtime_of s d v ≡ MaybeU64.None
-  pub since : on_cpu_since s d v ≡ MaybeU64.None
-  pub affinity : affinity_of s d v ≡ MaybeU64.None
+  pub runtime : runtime_of s d v ≡ None
+  pub since : on_cpu_since s d v ≡ None
+  pub affinity : affinity_of s d v ≡ None
   pub permits : (p : ℕ) → affinity_permits s d v p ≡ false
 
 -- every read of a system, by a book of the shape k

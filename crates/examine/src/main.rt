@@ -5,238 +5,149 @@
 
 #![tactic(auto)]
 
-ghost use Rattle.std.specs.Prelude.{◌≡◌, ◌+◌, ◌≤◌, true, ◌||◌, length, ◌==◌};
+ghost use Rattle.std.specs.Prelude.{◌≡◌, ◌≤◌, length};
 ghost use Rattle.io.specs.Counts.{IsPrefixLen};
-ghost use Rattle.system.specs.Shape.{within_sizes};
 ghost use Rattle.host.specs.Outcomes.{host_outcome};
 ghost use Rattle.script.specs.Script.{carried};
-ghost use Rattle.test_reads.specs.Reads.{reads_room};
-ghost use Rattle.text.specs.Lines.{answer_line, answer_room};
-ghost use Rattle.text.specs.Places.{Placed};
-ghost use Rattle.examine.specs.Examine.{query_of, entry_room, refused, made, apart, planned, names_field, field_written, answered, host_shown, Examined};
+ghost use Rattle.examine.specs.Examine.{apart, replaced, planned, field_written, answered, entry_room, Examined};
 
 use calls::Call;
 use host::{Host, Outcome};
 use policy::Scheduler;
 use records::{Plan, Record};
 use script::Script;
-use system::{Answer, DomId, System, Ticks, Vcpu};
+use system::{Answer, System};
 use test_reads::Query;
 
 // The most bytes that a record's text takes: what it is told, and what can be read of the host.
 const ENTRY_ROOM: usize = text::ANSWER_ROOM + test_reads::ROOM;
 
-// A script under way, and the bytes written for its last record.
-#[derive(Clone, Copy)]
-struct Written {
-    script: Script,
-    written: usize,
-}
+// ---- what a record is told
 
-// ---- a record
-
-fn query_of(r: Record) -> Query
-    ensures { result ≡ query_of r }
+// Kind 12: the policy's domains are the value's first byte, its vCPUs the second, the slice the other six.
+#[tactic(auto, unfolding(crate::specs::Examine::apart))]
+fn apart(r: Record) -> Result<Host, Answer>
+    ensures { result ≡ apart r }
 {
-    Query {
-        dom: r.dom,
-        vcpu: r.vcpu,
-        pcpu: r.third,
-        clock: r.value,
-    }
+    let num_domains = (r.value / 0x100_0000_0000_0000) as usize;
+    let vcpus_per_domain = (r.value / 0x1_0000_0000_0000 % 0x100) as usize;
+    let quantum = r.value % 0x1_0000_0000_0000;
+    let system = System::new(r.dom as usize, r.vcpu as usize, r.third as usize)?;
+    let scheduler = Scheduler::new(num_domains, vcpus_per_domain, quantum)?;
+    Ok(Host { system, scheduler })
 }
-
-// ---- what it is told
 
 // A refusal leaves the host as it is.
-fn refused(h: Host, answer: Answer) -> Outcome
-    ensures { host_outcome result ≡ refused h answer }
+fn replaced(h: &mut Host, built: Result<Host, Answer>) -> Outcome
+    ensures { host_outcome result h.new ≡ replaced h.old built }
 {
-    Outcome {
-        answer,
-        host: h,
-        count: 0,
-    }
+    let answer = match built {
+        Ok(new) => {
+            *h = new;
+            Answer::Done
+        }
+        Err(answer) => answer,
+    };
+    Outcome { answer, count: 0 }
 }
 
-fn built_apart(d: usize, v: usize, p: usize, e: usize, u: usize, slice: Ticks) -> Outcome
-    requires system_within { within_sizes d v p ≡ true }
-    requires policy_within { within_sizes e u 0 ≡ true }
-    ensures { host_outcome result ≡ made d v p e u slice }
+// There has to be a host.
+fn field_written(h: &mut Host, built: bool, r: Record) -> Outcome
+    ensures { host_outcome result h.new ≡ field_written h.old built r }
 {
-    let s = System::new(d, v, p);
-    let q = Scheduler::new(e, u, slice);
-    let system = s.system;
-    let scheduler = q.policy;
-    Outcome {
-        answer: Answer::Done,
-        host: Host { system, scheduler },
-        count: 0,
-    }
-}
-
-// The policy's domains are the value's first byte, its vCPUs the second, the slice the other six.
-#[tactic(auto, unfolding(crate::specs::Examine::apart))]
-fn apart(h: Host, dom: DomId, vcpu: Vcpu, pcpus: u32, value: u64) -> Outcome
-    ensures { host_outcome result ≡ apart h dom vcpu pcpus value }
-{
-    let d = dom as usize;
-    let v = vcpu as usize;
-    let p = pcpus as usize;
-    let e = (value / 0x100_0000_0000_0000) as usize;
-    let u = (value / 0x1_0000_0000_0000 % 0x100) as usize;
-    if !system::within_sizes(d, v, p) {
-        return refused(h, Answer::TooLarge);
-    }
-    if !system::within_sizes(e, u, 0) {
-        return refused(h, Answer::TooLarge);
-    }
-    built_apart(d, v, p, e, u, value % 0x1_0000_0000_0000)
-}
-
-#[tactic(auto, unfolding(script::specs::Script::carried))]
-fn by_plan(h: Host, plan: Plan) -> Outcome
-    ensures { host_outcome result ≡ carried h plan }
-{
-    match plan {
-        Plan::Refuse(answer) => refused(h, answer),
-        Plan::Build(shape) => Host::new(
-            shape.num_domains,
-            shape.vcpus_per_domain,
-            shape.num_pcpus,
-            shape.quantum,
-        ),
-        Plan::Call(call) => host::step(h, call),
-    }
+    let answer = if built {
+        test_fields::write(h, r);
+        Answer::Done
+    } else {
+        Answer::BadScript
+    };
+    Outcome { answer, count: 0 }
 }
 
 // A script's plan, but that kind 11 takes a domain offline.
 #[tactic(auto, unfolding(crate::specs::Examine::planned))]
-fn plan_of(built: bool, bytes: &[u8], r: Record) -> Plan
+fn planned(built: bool, bytes: &[u8], r: Record) -> Plan
     ensures { result ≡ planned built bytes.now r }
 {
-    if r.kind == 11 {
-        if built {
-            return Plan::Call(Call::OfflineAll {
-                dom: r.dom,
-                now: r.value,
-            });
-        }
-        return Plan::Refuse(Answer::BadScript);
+    match r.kind {
+        11 if built => Plan::Call(Call::OfflineAll {
+            dom: r.dom,
+            now: r.value,
+        }),
+        11 => Plan::Refuse(Answer::BadScript),
+        _ => records::plan_of(built, bytes),
     }
-    records::plan_of(built, bytes)
 }
 
-fn names_field(kind: u16) -> bool
-    ensures { result ≡ names_field kind }
+#[tactic(auto, unfolding(script::specs::Script::carried))]
+fn carried(h: &mut Host, plan: Plan) -> Outcome
+    ensures { host_outcome result h.new ≡ carried h.old plan }
 {
-    if kind >= test_fields::FIRST {
-        return kind <= test_fields::LAST;
-    }
-    false
-}
-
-// There has to be a host.
-fn field_written(h: Host, built: bool, r: Record) -> Outcome
-    ensures { host_outcome result ≡ field_written h built r }
-{
-    if built {
-        Outcome {
-            answer: Answer::Done,
-            host: test_fields::write(h, r),
-            count: 0,
+    match plan {
+        Plan::Refuse(answer) => Outcome { answer, count: 0 },
+        Plan::Build(shape) => {
+            // what a refused one leaves: the host of nothing, as a script's is before any is built
+            *h = Script::new().host;
+            let built = Host::new(
+                shape.num_domains,
+                shape.vcpus_per_domain,
+                shape.num_pcpus,
+                shape.quantum,
+            );
+            replaced(h, built)
         }
-    } else {
-        refused(h, Answer::BadScript)
+        Plan::Call(call) => h.step(call),
     }
 }
 
 #[tactic(auto, unfolding(crate::specs::Examine::answered))]
-fn answered(h: Host, built: bool, bytes: &[u8], r: Record) -> Outcome
-    ensures { host_outcome result ≡ answered h built bytes.now r }
+fn answered(h: &mut Host, built: bool, bytes: &[u8], r: Record) -> Outcome
+    ensures { host_outcome result h.new ≡ answered h.old built bytes.now r }
 {
-    if r.kind == 12 {
-        return apart(h, r.dom, r.vcpu, r.third, r.value);
+    match r.kind {
+        12 => replaced(h, apart(r)),
+        test_fields::FIRST..=test_fields::LAST => field_written(h, built, r),
+        _ => carried(h, planned(built, bytes, r)),
     }
-    if names_field(r.kind) {
-        return field_written(h, built, r);
-    }
-    by_plan(h, plan_of(built, bytes, r))
-}
-
-// There is a host from the first record on that is told 0.
-fn is_built(built: bool, told: u64) -> bool
-    ensures { result ≡ (told == 0) || built }
-{
-    if told == 0 { true } else { built }
 }
 
 // ---- what is written of it
 
-fn put_answer(out: &mut [u8], number: u64, told: u64, moves: usize) -> usize
-    requires { answer_room ≤ length out.old }
-    ensures placed { Placed out.old 0 (answer_line number told moves) out.new result }
-    ensures within { result ≤ answer_room }
-{
-    text::put_answer_line(out, 0, number, told, moves as u64)
-}
-
-fn put_host(out: &mut [u8], at: usize, built: bool, h: Host, r: Record) -> usize
-    requires { at + reads_room ≤ length out.old }
-    ensures { Placed out.old at (host_shown built h r) out.new result }
-{
-    if built {
-        test_reads::reads(out, at, h, query_of(r))
-    } else {
-        at
-    }
-}
-
-fn examined(s: Script, bytes: &[u8], out: &mut [u8]) -> Written
+// There is a host from the first record on that is told 0.
+fn examined(s: &mut Script, bytes: &[u8], out: &mut [u8]) -> usize
     requires { entry_room ≤ length out.old }
-    ensures { Examined s bytes.now out.old result out.new }
+    ensures { Examined s.old bytes.now out.old s.new result out.new }
 {
     let r = records::record_at(bytes);
-    let before = s.host;
-    let x = answered(before, s.built, bytes, r);
-    let host = x.host;
-    let answer = x.answer;
-    let told = system::number_of(answer);
-    let built = is_built(s.built, told);
-    let number = s.number.wrapping_add(1);
-    let line = put_answer(out, number, told, x.count);
-    let written = put_host(out, line, built, host, r);
-    Written {
-        script: Script {
-            number,
-            built,
-            host,
-        },
-        written,
+    let told = answered(&mut s.host, s.built, bytes, r);
+    let number = system::number_of(told.answer);
+    s.built |= number == 0;
+    s.number = s.number.wrapping_add(1);
+    let past = text::put_answer_line(out, 0, s.number, number, told.count as u64);
+    if !s.built {
+        return past;
     }
+    let query = Query {
+        dom: r.dom,
+        vcpu: r.vcpu,
+        pcpu: r.third,
+        clock: r.value,
+    };
+    test_reads::reads(out, past, &s.host, &query)
 }
 
 // ---- the program
 
-// The script after a record, and whether all that is said of it was written.
-#[derive(Clone, Copy)]
-struct After {
-    script: Script,
-    put: bool,
-}
-
-fn turn(rt: &HostRuntime, s: Script, record: &[u8], output: &mut [u8]) -> After
+// Whether all that is said of the record was written.
+fn turn(rt: &HostRuntime, s: &mut Script, record: &[u8], output: &mut [u8]) -> bool
     requires { entry_room ≤ length output.old }
 {
-    let w = examined(s, record, output);
-    let script = w.script;
-    let written = w.written;
-    let put = streams::put(
+    let written = examined(s, record, output);
+    streams::put(
         rt,
         &output[..written],
         b"examine: standard output takes no more\n",
-    );
-    After { script, put }
+    )
 }
 
 // How many bytes of a record there are; an error is said.
@@ -244,7 +155,7 @@ fn read(rt: &HostRuntime, input: &mut [u8]) -> usize
     ensures { IsPrefixLen result input.new }
 {
     let got = streams::read(rt, input);
-    if got.failed {
+    if got.error.is_some() {
         streams::say(rt, b"examine: standard input cannot be read\n");
     }
     got.bytes
@@ -255,17 +166,10 @@ fn main(rt: HostRuntime) {
     let mut output = [0u8; ENTRY_ROOM];
     let mut s = Script::new();
     // a proved loop has to end, and nothing says that the input does
-    let mut turns = u64::MAX;
-    while turns > 0 {
+    for _ in 0..u64::MAX {
         let bytes = read(&rt, &mut input);
-        if bytes == 0 {
+        if bytes == 0 || !turn(&rt, &mut s, &input[..bytes], &mut output) {
             return;
         }
-        let turned = turn(&rt, s, &input[..bytes], &mut output);
-        if !turned.put {
-            return;
-        }
-        s = turned.script;
-        turns -= 1;
     }
 }

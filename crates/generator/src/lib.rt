@@ -5,12 +5,7 @@
 ghost use Rattle.std.specs.Prelude.{◌≡◌};
 ghost use Rattle.generator.specs.Xorshift.{after, drawn_if, state_if};
 
-/// A generator. The number that it last drew is its state.
-#[derive(Clone, Copy)]
-pub struct Generator {
-    pub state: u64,
-}
-
+#[tactic(auto, unfolding(crate::specs::Xorshift::after, crate::specs::Xorshift::up, crate::specs::Xorshift::down))]
 fn step(x: u64) -> u64
     ensures { result ≡ after x }
 {
@@ -19,21 +14,25 @@ fn step(x: u64) -> u64
     b ^ (b << 17)
 }
 
-/// The next number; the generator's state is advanced where it lives.
-pub fn draw(g: &mut Generator) -> u64
-    ensures { (result ≡ after g.old.state) × (g.new.state ≡ after g.old.state) }
-{
-    let x = step(g.state);
-    g.state = x;
-    x
+/// A generator. The number that it last drew is its state.
+#[derive(Clone, Copy)]
+pub struct Generator {
+    pub state: u64,
 }
 
-/// The next number where it is wanted; else 0, and the generator stays as it was.
-pub fn draw_if(g: &mut Generator, wanted: bool) -> u64
-    ensures { (result ≡ drawn_if wanted g.old.state) × (g.new.state ≡ state_if wanted g.old.state) }
-{
-    if wanted {
-        return draw(g);
+impl Generator {
+    /// The next number.
+    pub fn draw(&mut self) -> u64
+        ensures { (result ≡ after self.old.state) × (self.new.state ≡ after self.old.state) }
+    {
+        self.state = step(self.state);
+        self.state
     }
-    0
+
+    /// The next number where it is wanted; else 0, and the generator stays as it was.
+    pub fn draw_if(&mut self, wanted: bool) -> u64
+        ensures { (result ≡ drawn_if wanted self.old.state) × (self.new.state ≡ state_if wanted self.old.state) }
+    {
+        if wanted { self.draw() } else { 0 }
+    }
 }

@@ -1,15 +1,13 @@
 -- When a call is told in which state it found its vCPU: exactly where it passes the tests before that one and does not
 -- accept the state. It is proved as `step-found` of every call and every host, damaged or not.
-use Rattle.std.specs.Prelude.{ℕ, ◌<◌, Bool, true, false, ◌≡◌, ◌↔◌}
+use Rattle.std.specs.Prelude.{ℕ, ◌<◌, Bool, true, false, ◌≡◌, ◌↔◌, None, Some}
 use Rattle.system.specs.declared.RunState.{RunState}
 use Rattle.system.specs.declared.RunState.TheVariants.{Offline, Runnable, Running, Blocked}
 use Rattle.system.specs.declared.System.{System}
-use Rattle.system.specs.declared.MaybeState.TheVariants.{Some}
 use Rattle.system.specs.declared.Answer.TheVariants.{FoundOffline, FoundRunnable, FoundRunning, FoundBlocked}
 use Rattle.system.specs.Answers.{told}
 use Rattle.system.specs.Reads.{state_of}
 use Rattle.system.specs.Slots.{domains, vcpus, pcpus}
-use Rattle.verdict.specs.declared.Violation.TheVariants.{None}
 use Rattle.verdict.specs.Violations.{first_violation}
 use Rattle.calls.specs.declared.Request.{Request}
 use Rattle.changes.specs.Changes.{reaches}

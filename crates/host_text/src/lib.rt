@@ -9,9 +9,7 @@ ghost use Rattle.host_text.specs.HostText.{state_number, pcpu_number, clock_numb
 ghost use Rattle.host_text.specs.Rooms.{vcpu_room, pcpu_room, vcpus_room, pcpus_room, host_room};
 
 use policy::Scheduler;
-use system::{
-    MAX_DOMAINS, MAX_PCPUS, MAX_VCPUS, Occupant, PhysicalCpu, RunState, System, VirtualCpu, least,
-};
+use system::{MAX_DOMAINS, MAX_PCPUS, MAX_VCPUS, NO_PCPU, Occupant, RunState, System, VirtualCpu};
 
 /// The most bytes that the line of a vCPU takes: nine numbers of 20 digits, a space before each, and
 /// the line's end.
@@ -27,114 +25,93 @@ fn state_number(state: RunState) -> u64
     match state {
         RunState::Offline => 0,
         RunState::Runnable => 1,
-        RunState::Running { pcpu: _ } => 2,
+        RunState::Running { .. } => 2,
         RunState::Blocked => 3,
     }
 }
 
+// The number of the pCPU that it runs on, or that which stands for none.
 fn pcpu_number(state: RunState) -> u64
     ensures { result ≡ pcpu_number state }
 {
     match state {
-        RunState::Offline => 64,
-        RunState::Runnable => 64,
         RunState::Running { pcpu } => pcpu as u64,
-        RunState::Blocked => 64,
+        _ => NO_PCPU as u64,
     }
 }
 
+// The clock of its dispatch has a meaning only while it runs.
 fn clock_number(dispatched_at: u64, state: RunState) -> u64
     ensures { result ≡ clock_number dispatched_at state }
 {
-    match state {
-        RunState::Offline => 0,
-        RunState::Runnable => 0,
-        RunState::Running { pcpu: _ } => dispatched_at,
-        RunState::Blocked => 0,
-    }
+    if state.is_running() { dispatched_at } else { 0 }
 }
 
 // The line of slot i, where a domain has k vCPUs.
-fn put_vcpu(out: &mut [u8], at: usize, i: usize, k: usize, v: VirtualCpu, weight: u32) -> usize
+fn put_vcpu(out: &mut [u8], at: usize, i: usize, k: usize, v: &VirtualCpu, weight: u32) -> usize
     requires { at + vcpu_room ≤ length out.old }
-    ensures { Placed out.old at (slot_row k i v weight) out.new result }
+    ensures { Placed out.old at (slot_row k i v.now weight) out.new result }
 {
     if k <= i % MAX_VCPUS {
         return at;
     }
-    let state = v.state;
-    let numbers = [
+    let line = text::numbers_line(&[
         (i / MAX_VCPUS) as u64,
         (i % MAX_VCPUS) as u64,
-        state_number(state),
-        pcpu_number(state),
-        clock_number(v.dispatched_at, state),
+        state_number(v.state),
+        pcpu_number(v.state),
+        clock_number(v.dispatched_at, v.state),
         v.runtime,
         v.affinity,
         weight as u64,
         v.last as u64,
-    ];
-    let line = text::numbers_line(&numbers);
-    text::append(out, at, line)
+    ]);
+    text::append(out, at, line.as_slice())
 }
 
-fn put_pcpu(out: &mut [u8], at: usize, pcpu: usize, cpu: PhysicalCpu) -> usize
+fn put_pcpu(out: &mut [u8], at: usize, pcpu: usize, occupant: Occupant) -> usize
     requires { at + pcpu_room ≤ length out.old }
-    ensures { Placed out.old at (pcpu_row pcpu cpu.occupant) out.new result }
+    ensures { Placed out.old at (pcpu_row pcpu occupant) out.new result }
 {
-    let occupant = cpu.occupant;
     match occupant {
         Occupant::Idle => at,
         Occupant::Vcpu { dom, vcpu } => {
             let line = text::pcpu_line(pcpu as u64, dom as u64, vcpu as u64);
-            text::append(out, at, line)
+            text::append(out, at, line.as_slice())
         }
     }
 }
 
-fn put_vcpus(out: &mut [u8], at: usize, s: System, p: Scheduler) -> usize
+fn put_vcpus(out: &mut [u8], at: usize, s: &System, p: &Scheduler) -> usize
     requires { at + vcpus_room ≤ length out.old }
-    ensures { Placed out.old at (vcpu_rows s p (domains s * 8)) out.new result }
+    ensures { Placed out.old at (vcpu_rows s.now p.now (domains s.now * 8)) out.new result }
 {
-    let n = least(s.domain_count, MAX_DOMAINS) * MAX_VCPUS;
-    let k = least(s.vcpus_per_domain, MAX_VCPUS);
+    let k = s.vcpus_per_domain();
     let mut past = at;
-    let mut i: usize = 0;
-    while i < n {
-        let v = s.vcpus[i];
-        let a = p.accounts[i];
-        let account = policy::looked_up(p.domain_count, p.vcpus_per_domain, i, a);
-        past = put_vcpu(out, past, i, k, v, policy::used_weight(account));
-        i += 1;
+    for i in 0..s.domain_count() * MAX_VCPUS {
+        past = put_vcpu(out, past, i, k, &s.vcpus[i], p.account_at(i).used_weight());
     }
     past
 }
 
-fn put_pcpus(out: &mut [u8], at: usize, s: System) -> usize
+fn put_pcpus(out: &mut [u8], at: usize, s: &System) -> usize
     requires { at + pcpus_room ≤ length out.old }
-    ensures { Placed out.old at (pcpu_rows s (pcpus s)) out.new result }
+    ensures { Placed out.old at (pcpu_rows s.now (pcpus s.now)) out.new result }
 {
-    let n = least(s.pcpu_count, MAX_PCPUS);
     let mut past = at;
-    let mut pcpu: usize = 0;
-    while pcpu < n {
-        let cpu = s.pcpus[pcpu];
-        past = put_pcpu(out, past, pcpu, cpu);
-        pcpu += 1;
+    for p in 0..s.pcpu_count() {
+        past = put_pcpu(out, past, p, s.pcpus[p].occupant);
     }
     past
 }
 
 /// Puts a host's text at index `at`; where there is not room for the longest from there on, nothing.
 /// Answers the index past it.
-pub fn put_host(out: &mut [u8], at: usize, s: System, p: Scheduler) -> usize
-    ensures out_after { out.new ≡ put_within host_room out.old at (host_text s p) }
-    ensures value { result ≡ end_within host_room out.old at (host_text s p) }
+pub fn put_host(out: &mut [u8], at: usize, s: &System, p: &Scheduler) -> usize
+    ensures put { out.new ≡ put_within host_room out.old at (host_text s.now p.now) }
+    ensures end { result ≡ end_within host_room out.old at (host_text s.now p.now) }
 {
-    if out.len() < HOST_ROOM {
-        return at;
-    }
-    if at > out.len() - HOST_ROOM {
+    if out.len() < HOST_ROOM || out.len() - HOST_ROOM < at {
         return at;
     }
     let past = put_vcpus(out, at, s, p);

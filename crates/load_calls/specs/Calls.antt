@@ -30,8 +30,11 @@ has_last Mask = true
 has_last Advance = true
 
 -- an id is drawn where the kind has one and there is one to draw
+abbrev pub id_drawn : Kind → ℕ → Bool
+id_drawn k count = has_ids k && not (eqb count 0)
+
 abbrev pub draws_id : ℕ → ℕ → Bool
-draws_id n count = has_ids (kind_of n) && not (eqb count 0)
+draws_id n count = id_drawn (kind_of n) count
 
 abbrev pub draws_last : ℕ → Bool
 draws_last n = has_last (kind_of n)

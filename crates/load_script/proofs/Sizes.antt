@@ -21,7 +21,7 @@ by-built P calls build l = go l.built
     go true = calls l.build l.generator l.clock l.left
     go false = build l.build l.generator l.clock l.left
 
-size-rest : (l : Load) → size (rest l) ≡ size l - 1
+pub size-rest : (l : Load) → size (rest l) ≡ size l - 1
 unfolding rest
 size-rest = by-built (λ l. size (rest l) ≡ size l - 1) (λ b g t n. refl) (λ b g t n. omega arith)
 

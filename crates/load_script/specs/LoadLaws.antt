@@ -1,5 +1,5 @@
 -- What is promised of loads. Each statement is proved in proofs/, under the name that stands before it.
-use Rattle.std.specs.Prelude.{ℕ, ◌+◌, ◌%◌, ◌^◌, ◌≤◌, ◌<◌, true, false, ◌≡◌, List, [], ◌++◌, length}
+use Rattle.std.specs.Prelude.{ℕ, ◌+◌, ◌%◌, ◌^◌, ◌≤◌, ◌<◌, None, Some, true, false, ◌≡◌, List, [], ◌++◌, length}
 use Rattle.system.specs.declared.Answer.TheVariants.{Done, TooLarge, BadSeed}
 use Rattle.system.specs.Answers.{told}
 use Rattle.system.specs.Shape.{within_sizes}
@@ -7,7 +7,6 @@ use Rattle.records.specs.declared.Shape.{Shape}
 use Rattle.records.specs.Bytes.{FitsRecord, record_bytes}
 use Rattle.load_calls.specs.Calls.{later}
 use Rattle.load_script.specs.declared.Load.{Load}
-use Rattle.load_script.specs.declared.MaybeRecord.{MaybeRecord}
 use Rattle.load_script.specs.Loads.{
   begin,
   no_load,
@@ -55,11 +54,11 @@ RecordsOfTheChain = (seed : ℕ) (s : Shape) (count n : ℕ) → nth_record (beg
 
 -- `over`: a load that is over hands out nothing, and has no script
 abbrev pub OverIsOver : Type 0
-OverIsOver = (l : Load) → size l ≡ 0 → (handed l ≡ record { next = MaybeRecord.None; load = l }) × (script l ≡ [])
+OverIsOver = (l : Load) → size l ≡ 0 → (handed l ≡ record { next = None; load = l }) × (script l ≡ [])
 
 -- `next-is`, `next-then`: any other hands out its first record, which is the start of its script, and is left with the rest
 abbrev pub NextIsTheFirst : Type 0
-NextIsTheFirst = (l : Load) → 0 < size l → handed l ≡ record { next = MaybeRecord.Some (nth_record l 0); load = load_after 1 l }
+NextIsTheFirst = (l : Load) → 0 < size l → handed l ≡ record { next = Some (nth_record l 0); load = load_after 1 l }
 
 abbrev pub NextThenTheRest : Type 0
 NextThenTheRest = (l : Load) → 0 < size l → script l ≡ record_bytes (nth_record l 0) ++ script (load_after 1 l)

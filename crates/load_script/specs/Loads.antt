@@ -1,5 +1,5 @@
 -- A load: a build, then as many calls as its count says, each drawn where the one before it left the generator and the clock.
-use Rattle.std.specs.Prelude.{ℕ, zero, suc, ◌*◌, ◌-◌, ◌/◌, min, true, false, cond, List, [], ◌++◌, eqb, length}
+use Rattle.std.specs.Prelude.{ℕ, zero, suc, ◌*◌, ◌-◌, ◌/◌, min, true, false, cond, Option, None, Some, List, [], ◌++◌, eqb, length}
 use Rattle.calls.specs.declared.Call.{Call}
 use Rattle.system.specs.declared.Answer.{Answer}
 use Rattle.system.specs.declared.Answer.TheVariants.{Done, TooLarge, BadSeed}
@@ -13,9 +13,6 @@ use Rattle.load_calls.specs.Calls.{called}
 use Rattle.load_calls.specs.Meant.{meant}
 use Rattle.load_script.specs.declared.Load.{Load}
 use Rattle.load_script.specs.declared.Opened.{Opened}
-use Rattle.load_script.specs.declared.MaybeRecord.{MaybeRecord}
-use Rattle.load_script.specs.declared.Handed.{Handed}
-use Rattle.load_script.specs.declared.Filled.{Filled}
 
 -- ---- opening
 
@@ -99,9 +96,14 @@ past_call l =
 unfoldable pub rest : Load → Load
 rest l = cond l.built (past_call l) (past_build l)
 
+-- the record that comes next, if there is one, and the load after it; a load that is over stays as it is
+pub record Handed : Type 0 where
+  pub next : Option Record
+  pub load : Load
+
 abbrev pub handed : Load → Handed
 handed l =
-    cond (eqb (size l) 0) (record { next = MaybeRecord.None; load = l }) (record { next = MaybeRecord.Some (first l); load = rest l })
+    cond (eqb (size l) 0) (record { next = None; load = l }) (record { next = Some (first l); load = rest l })
 
 -- the load after n records, and record n, from 0 on
 unfoldable pub load_after : ℕ → Load → Load
@@ -122,6 +124,10 @@ script l = stretch (size l) l
 -- how many of them fit, and what is handed back once they are written
 abbrev pub fitting : Load → List ℕ → ℕ
 fitting l out = min (size l) (length out / 20)
+
+pub record Filled : Type 0 where
+  pub load : Load
+  pub written : ℕ
 
 abbrev pub filled : Load → List ℕ → Filled
 filled l out = record { load = load_after (fitting l out) l; written = fitting l out * 20 }

@@ -1,5 +1,5 @@
 -- Loads record by record and byte by byte, worked out apart, and what opening one is told. Assumes nothing.
-use Rattle.std.specs.Prelude.{ℕ, ◌-◌, ◌^◌, refl, List, [], ◌∷◌, ◌++◌, replicate}
+use Rattle.std.specs.Prelude.{ℕ, ◌-◌, ◌^◌, refl, Option, None, Some, List, [], ◌∷◌, ◌++◌, replicate}
 use Rattle.rows.specs.Rows.{Row, row, rows, AllDue}
 use Rattle.big_endian.specs.Numbers.{bytes}
 use Rattle.generator.specs.Xorshift.{up, down, after}
@@ -7,7 +7,6 @@ use Rattle.records.specs.declared.Record.{Record}
 use Rattle.records.specs.declared.Shape.{Shape}
 use Rattle.load_calls.specs.Calls.{kind_of, state_drawn, numbers_drawn, later, called}
 use Rattle.load_script.specs.declared.Load.{Load}
-use Rattle.load_script.specs.declared.MaybeRecord.{MaybeRecord}
 use Rattle.load_script.specs.Loads.{opened, size, first, rest, handed, load_after, nth_record, stretch, script, filled}
 
 abbrev shape : ℕ → ℕ → ℕ → ℕ → Shape
@@ -58,9 +57,9 @@ records-due = refl
 
 -- ---- handing out
 
-abbrev shown : MaybeRecord → List ℕ
-shown MaybeRecord.None = []
-shown (MaybeRecord.Some r) = fields r
+abbrev shown : Option Record → List ℕ
+shown None = []
+shown (Some r) = fields r
 
 -- what is handed out, if anything, and how many records are left then
 abbrev gives : Load → List ℕ

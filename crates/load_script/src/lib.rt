@@ -2,15 +2,13 @@
 
 #![tactic(auto)]
 
-ghost use Rattle.std.specs.Prelude.{◌≡◌, ◌*◌, ◌<◌};
-ghost use Rattle.std.proofs.lemmas.List.Edits.{sets};
-ghost use Rattle.io.specs.Counts.{IsPrefixLen};
-ghost use Rattle.load_script.specs.Loads.{load_outcome, refused_with, opened, size, first, rest, handed, stretch, fitting, filled};
+ghost use Rattle.std.specs.Prelude.{◌≡◌, ◌<◌};
+ghost use Rattle.load_script.specs.Loads.{load_outcome, refused_with, opened};
 
 use generator::Generator;
 use load_calls::call_from;
 use records::{RECORD, Record, Shape, put_record};
-use system::{Answer, least};
+use system::Answer;
 
 /// A load that is under way: its build, the generator, the clock, whether the build was handed out, and how many calls
 /// are still to come.
@@ -24,37 +22,11 @@ pub struct Load {
 }
 
 /// What an opened load is told, and the load; a refused one has no records.
+// No Result: that a refused load has no records is promised (`refused-empty`, and `opened` of the page).
 #[derive(Clone, Copy)]
 pub struct Opened {
     pub answer: Answer,
     pub load: Load,
-}
-
-#[derive(Clone, Copy)]
-pub enum MaybeRecord {
-    None,
-    Some(Record),
-}
-
-/// The record that comes next, if there is one, and the load after it.
-#[derive(Clone, Copy)]
-pub struct Handed {
-    pub next: MaybeRecord,
-    pub load: Load,
-}
-
-/// The load after the records that were written, and their bytes.
-#[derive(Clone, Copy)]
-pub struct Filled {
-    pub load: Load,
-    pub written: usize,
-}
-
-// A record that comes next for certain, and the load after it.
-#[derive(Clone, Copy)]
-struct One {
-    next: Record,
-    load: Load,
 }
 
 // ---- opening
@@ -115,82 +87,79 @@ pub fn open(seed: u64, shape: Shape, count: u32) -> Opened
 
 // ---- handing out
 
-/// How many records are still to come.
-pub fn records_left(load: Load) -> usize
-    ensures { result ≡ size load }
-{
-    let left = load.left as usize;
-    if load.built { left } else { left + 1 }
-}
+impl Load {
+    ghost use Rattle.std.proofs.lemmas.List.Edits.{sets};
+    ghost use Rattle.io.specs.Counts.{IsPrefixLen};
+    ghost use Rattle.load_script.specs.Loads.{size, first, rest, stretch, fitting, filled};
 
-fn take(load: Load) -> One
-    requires { 0 < size load }
-    ensures { (result.next ≡ first load) × (result.load ≡ rest load) }
-{
-    let build = load.build;
-    let generator = load.generator;
-    if !load.built {
-        return One {
-            next: build,
-            load: Load {
-                build,
-                generator,
-                clock: load.clock,
-                built: true,
-                left: load.left,
-            },
-        };
+    /// How many records are still to come.
+    pub fn records_left(&self) -> usize
+        ensures { result ≡ size self.now }
+    {
+        let left = self.left as usize;
+        if self.built { left } else { left + 1 }
     }
-    let called = call_from(build.dom, build.vcpu, generator.state, load.clock);
-    let next = called.call;
-    One {
-        next,
-        load: Load {
-            build,
-            generator: Generator {
-                state: called.state,
-            },
-            clock: called.clock,
-            built: true,
-            left: load.left - 1,
-        },
-    }
-}
 
-/// The record that comes next, and the load after it; a load that is over stays as it is.
-pub fn next(load: Load) -> Handed
-    ensures { result ≡ handed load }
-{
-    if records_left(load) == 0 {
-        return Handed {
-            next: MaybeRecord::None,
-            load,
-        };
+    // The record that comes next, where there is one.
+    #[tactic(auto, unfolding(crate::specs::Loads::first, crate::specs::Loads::rest))]
+    fn hand_out(&mut self) -> Record
+        requires { 0 < size self.old }
+        ensures next { result ≡ first self.old }
+        ensures load { self.new ≡ rest self.old }
+    {
+        if !self.built {
+            self.built = true;
+            return self.build;
+        }
+        let called = call_from(
+            self.build.dom,
+            self.build.vcpu,
+            self.generator.state,
+            self.clock,
+        );
+        self.generator.state = called.state;
+        self.clock = called.clock;
+        self.left -= 1;
+        called.call
     }
-    let One { next, load } = take(load);
-    Handed {
-        next: MaybeRecord::Some(next),
-        load,
+
+    /// Writes a stretch of the script: as many records as are still to come and as there is room for. The number of
+    /// their bytes is handed back.
+    pub fn fill(&mut self, out: &mut [u8]) -> usize
+        ensures out_after { out.new ≡ sets out.old 0 (stretch (fitting self.old out.old) self.old) }
+        ensures load { self.new ≡ (filled self.old out.old).load }
+        ensures value { result ≡ (filled self.old out.old).written }
+        ensures prefix_len { IsPrefixLen result out.new }
+    {
+        let n = self.records_left().min(out.len() / RECORD);
+        for i in 0..n {
+            let next = self.hand_out();
+            put_record(out, i * RECORD, next);
+        }
+        n * RECORD
     }
 }
 
-/// Writes a stretch of the script: as many records as are still to come and as there is room for.
-pub fn fill(load: Load, out: &mut [u8]) -> Filled
-    ensures out_after { out.new ≡ sets out.old 0 (stretch (fitting load out.old) load) }
-    ensures value { result ≡ filled load out.old }
-    ensures prefix_len { IsPrefixLen result.written out.new }
-{
-    let n = least(records_left(load), out.len() / RECORD);
-    let mut l = load;
-    let mut i: usize = 0;
-    while i < n {
-        let One { next, load } = take(l);
-        put_record(out, i * RECORD, next);
-        l = load;
-        i += 1;
+/// Record by record; a load that is over stays as it is.
+impl Iterator for Load {
+    type Item = Record;
+
+    ghost use Rattle.std.specs.Iterator.{at_most};
+    ghost use Rattle.load_script.specs.Loads.{size, handed};
+
+    ghost next_gives = { λ l r m. (r ≡ (handed l).next) × (m ≡ (handed l).load) };
+
+    ghost remaining = { λ l. at_most (size l) };
+
+    fn next(&mut self) -> Option<Record> {
+        if self.records_left() == 0 {
+            return None;
+        }
+        Some(self.hand_out())
     }
-    Filled {
-        load: l,
-        written: n * RECORD,
+
+    fn size_hint(&self) -> (usize, Option<usize>) {
+        let left = self.records_left();
+        (left, Some(left))
     }
 }

@@ -26,8 +26,8 @@ meets-bit m p = ap (λ (n : ℕ). not (eqb n 0)) (ap (bit_and m) alone ∙ and_h
     scaled (suc (suc d)) h = absurd (omega arith)
 
 -- and so a mask meets the bit of each pCPU that it admits
-pub meets-pcpu : (m p : ℕ) → not (eqb (bit_and m (pcpu_bit p)) 0) ≡ permits m p
-meets-pcpu m p = go (ltb p 64)
+pub meets_pcpu : (m p : ℕ) → not (eqb (bit_and m (pcpu_bit p)) 0) ≡ permits m p
+meets_pcpu m p = go (ltb p 64)
   where
     go : (t : Bool) → not (eqb (bit_and m (cond t (2 ^ p) 0)) 0) ≡ (t && bit m p)
     go true = meets-bit m p
@@ -51,5 +51,5 @@ trailing (suc k) n =
     ∙ ap₂ (λ (x y : ℕ). cond (eqb (x % 2) 1) zero (suc y)) (sym (div-one n))
     (trailing k (n / 2) ∙ ap (λ f. first f k) (λ i p. half n p i))
 
-pub trailing-lowest : (n : ℕ) → count_trailing_zeros 64 n ≡ lowest n
-trailing-lowest n = trailing 64 n ∙ first_cong (bit n) (permits n) 64 (λ p h. rw (lt-ltb p 64 h))
+pub trailing_lowest : (n : ℕ) → count_trailing_zeros 64 n ≡ lowest n
+trailing_lowest n = trailing 64 n ∙ first_cong (bit n) (permits n) 64 (λ p h. rw (lt-ltb p 64 h))

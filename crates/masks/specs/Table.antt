@@ -1,5 +1,5 @@
 -- A table that lists the values of a function, and what stands at each place of it. Assumes nothing.
-use Rattle.std.specs.Prelude.{◌≡◌, refl, List, [], ◌∷◌, ℕ, zero, suc, ◌+◌, ◌<◌, get_or}
+use Rattle.std.specs.Prelude.{◌≡◌, refl, List, [], ◌∷◌, ℕ, zero, suc, ◌<◌, get_or}
 use Rattle.std.proofs.Common.{le_of_suc-le-suc, not-suc-le-zero}
 
 -- f 0, f 1 and so on, n of them
@@ -11,7 +11,3 @@ pub entry : (f : ℕ → ℕ) (n k : ℕ) → k < n → get_or (listed f n) k 0 
 entry f zero k h = absurd (not-suc-le-zero h)
 entry f (suc n) zero h = refl
 entry f (suc n) (suc k) h = entry (λ j. f (suc j)) n k (le_of_suc-le-suc h)
-
--- entries k and k + 32
-abbrev pub both : List ℕ → ℕ → List ℕ
-both xs k = get_or xs k 0 ∷ get_or xs (k + 32) 0 ∷ []

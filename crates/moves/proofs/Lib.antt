@@ -5,6 +5,7 @@ mod PlacementLoop
 mod PreemptionLoop
 mod BeatenLoop
 mod Leaders
+mod First
 mod IdleSets
 mod Log
 mod SettleLoop

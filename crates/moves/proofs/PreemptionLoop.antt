@@ -1,45 +1,52 @@
 -- One turn of the loop for the least deserving that loses. Assumes nothing.
-use Prim.Native.Nat.{ℕ, suc, ◌≤◌, ◌<◌}
-use mathlib.Core.Bool.{true, false, cond, and-false}
-use mathlib.Core.Path.{◌≡◌}
+use Prim.Native.Nat.{ℕ, suc}
+use mathlib.Core.Bool.{true, false, and-false}
+use mathlib.Core.Path.{◌≡◌, refl}
 use mathlib.Core.List.{List}
-use lib.Dec.{leb}
-use borrow.Author.Tests.{le-leb, lt-leb}
+use Rattle.std.specs.Prelude.{Option, Some}
 use Rattle.moves.specs.declared.Leader.{Leader}
+use Rattle.moves.specs.declared.Standing.{Standing}
+use Rattle.moves.specs.declared.Standing.TheVariants.{Rests, Waits, Expired}
+use Rattle.moves.specs.declared.Row.{Row}
 use Rattle.scans.specs.Scan.{scan}
 use Rattle.moves.specs.Decide.{beaten, loses}
-use Rattle.moves.specs.Table.{slot_kind, tabled}
-use Rattle.moves.specs.Leads.{ahead, StandsExpired, Leads}
+use Rattle.moves.specs.Table.{is_expired, row_at, tabled}
+use Rattle.moves.specs.Leads.{ahead, yields_before, StandsExpired, Leads}
 use Rattle.moves.proofs.ScanSteps as steps
 
--- l leads the scan for a victim among n slots, as far as slot i
-abbrev pub Leading : List ℕ → ℕ → ℕ → Leader → Type 0
-Leading t n i l = let s = tabled t 0 in Leads t s.on (scan (loses s n) (λ k j. s.beats j k) i) l
+-- o leads the scan for a victim among n slots, as far as slot i
+abbrev pub Leading : List Row → ℕ → ℕ → Option Leader → Type 0
+Leading t n i o = let s = tabled t 0 in Leads t s.on (scan (loses s n) (λ k j. s.beats j k) i) o
 
-module _ (t : List ℕ) (n : ℕ) where
-  passes : (i : ℕ) (l : Leader) → loses (tabled t 0) n i ≡ false → Leading t n i l → Leading t n (suc i) l
-  passes i l = let s = tabled t 0 in steps.keeps (loses s n) (λ k j. s.beats j k) i
+not-expired : (s : Standing) → ((p : ℕ) → s ≡ Expired p → ⊥) → is_expired s ≡ false
+not-expired Rests n = refl
+not-expired Waits n = refl
+not-expired (Expired p) n = absurd (n p refl)
+
+module _ (t : List Row) (n : ℕ) where
+  passes : (i : ℕ) (o : Option Leader) → loses (tabled t 0) n i ≡ false → Leading t n i o → Leading t n (suc i) o
+  passes i o = let s = tabled t 0 in steps.keeps _ _ o (loses s n) (λ k j. s.beats j k) i
 
   -- one that is not expired, or not beaten, changes nothing
-  pub skips : (i : ℕ) (l : Leader) → slot_kind t i < 2 → Leading t n i l → Leading t n (suc i) l
+  pub skips : (i : ℕ) (o : Option Leader) → ((p : ℕ) → (row_at t i).standing ≡ Expired p → ⊥) → Leading t n i o → Leading t n (suc i) o
   unfolding tabled loses
-  skips i l k = passes i l (rw (lt-leb _ _ k))
+  skips i o k = passes i o (rw (not-expired (row_at t i).standing k))
 
-  pub unbeaten : (i : ℕ) (l : Leader) → beaten (tabled t 0) n i ≡ false → Leading t n i l → Leading t n (suc i) l
+  pub unbeaten : (i : ℕ) (o : Option Leader) → beaten (tabled t 0) n i ≡ false → Leading t n i o → Leading t n (suc i) o
   unfolding tabled loses
-  unbeaten i l e = passes i l (rw e (and-false (leb 2 (slot_kind t i))))
+  unbeaten i o e = passes i o (rw e (and-false (is_expired (row_at t i).standing)))
 
   -- next is expired
-  module _ (l next : Leader) (h : StandsExpired t next) (lead : Leading t n next.at l) where
-    pub takes : 2 ≤ slot_kind t next.at → beaten (tabled t 0) n next.at ≡ true
-        → cond l.found (ahead l next) true ≡ true → Leading t n (suc next.at) next
+  module _ (o : Option Leader) (next : Leader) (h : StandsExpired t next) (lead : Leading t n next.at o) where
+    pub takes : is_expired (row_at t next.at).standing ≡ true → beaten (tabled t 0) n next.at ≡ true
+        → yields_before next o ≡ true → Leading t n (suc next.at) (Some next)
     unfolding tabled loses
-    takes k e o =
+    takes k e y =
         let s = tabled t 0 in
-        steps.takes (loses s n) (λ k j. s.beats j k) (λ x y. ahead y x) (λ x y p q. steps.ahead-beats t 0 y x q p) l next h lead
-        (rw (le-leb _ _ k) e) o
+        steps.takes (loses s n) (λ k j. s.beats j k) (λ x y. ahead y x) (λ x y p q. steps.ahead-beats t 0 y x q p) o next h lead
+        (rw (k, e)) y
 
-    pub stays : cond l.found (ahead l next) true ≡ false → Leading t n (suc next.at) l
+    pub stays : yields_before next o ≡ false → Leading t n (suc next.at) o
     stays =
         let s = tabled t 0 in
-        steps.stays (loses s n) (λ k j. s.beats j k) (λ x y. ahead y x) (λ x y p q. steps.ahead-beats t 0 y x q p) l next h lead
+        steps.stays (loses s n) (λ k j. s.beats j k) (λ x y. ahead y x) (λ x y p q. steps.ahead-beats t 0 y x q p) o next h lead

@@ -4,13 +4,14 @@ use Rattle.std.proofs.Common.{zero-le, suc-le-suc}
 use Rattle.std.proofs.Math.Path.{ap}
 use Rattle.masks.specs.Masks.{pcpu_bit}
 use Rattle.moves.specs.declared.Choice.{Choice}
+use Rattle.moves.specs.declared.Row.{Row}
 use Rattle.moves.specs.declared.Choice.TheVariants.{Run, Preempt, Rest}
 use Rattle.moves.specs.Decide.{decide}
 use Rattle.moves.specs.Table.{tabled}
 use Rattle.moves.specs.TableWrites.{dispatched_in, left_in}
 use Rattle.moves.specs.Settling.{with_pcpu, and_after, settled}
 
-module _ (slice n k : ℕ) (t : List ℕ) (idle : ℕ) where
+module _ (slice n k : ℕ) (t : List Row) (idle : ℕ) where
   by : (c : Choice) → decide (tabled t idle) n ≡ c
       → settled slice n (suc k) t idle ≡ and_after (λ u rest. settled slice n k u rest) slice t idle c
   unfolding settled
@@ -21,19 +22,19 @@ module _ (slice n k : ℕ) (t : List ℕ) (idle : ℕ) where
   settled-run i p e = by (Run i p) e
 
   pub settled-preempt : (i p : ℕ) → decide (tabled t idle) n ≡ Preempt i p
-      → settled slice n (suc k) t idle ≡ Preempt i (p % 64) ∷ settled slice n k (left_in t i p) (with_pcpu idle (p % 64))
+      → settled slice n (suc k) t idle ≡ Preempt i (p % 64) ∷ settled slice n k (left_in t i) (with_pcpu idle (p % 64))
   settled-preempt i p e = by (Preempt i p) e
 
   pub settled-rest : decide (tabled t idle) n ≡ Rest → settled slice n (suc k) t idle ≡ []
   settled-rest e = by Rest e
 
-pub settled-short : (slice n k : ℕ) (t : List ℕ) (idle : ℕ) → length (settled slice n k t idle) ≤ k
+pub settled-short : (slice n k : ℕ) (t : List Row) (idle : ℕ) → length (settled slice n k t idle) ≤ k
 unfolding settled
 settled-short slice n zero t idle = zero-le
 settled-short slice n (suc k) t idle = go (decide (tabled t idle) n) (settled-short slice n k)
   where
-    go : (c : Choice) → ((u : List ℕ) (rest : ℕ) → length (settled slice n k u rest) ≤ k)
+    go : (c : Choice) → ((u : List Row) (rest : ℕ) → length (settled slice n k u rest) ≤ k)
         → length (and_after (λ u rest. settled slice n k u rest) slice t idle c) ≤ suc k
     go (Run i p) ih = suc-le-suc (ih (dispatched_in slice t i p) (idle - pcpu_bit p))
-    go (Preempt i p) ih = suc-le-suc (ih (left_in t i p) (with_pcpu idle (p % 64)))
+    go (Preempt i p) ih = suc-le-suc (ih (left_in t i) (with_pcpu idle (p % 64)))
     go Rest ih = zero-le

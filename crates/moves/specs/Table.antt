@@ -1,52 +1,47 @@
--- The table that a decision and settling go by, as the code has it: 1408 numbers, lent. Eight words a slot from 0 on: its kind, its
--- weight, the lower and the upper half of its mask, the four limbs of its service. From 1024 on four limbs a pCPU: the service that
--- whoever may be preempted there has once it has left. From 1280 on a word a slot: the pCPU that it was last on.
-use Rattle.std.specs.Prelude.{ℕ, ◌+◌, ◌-◌, ◌*◌, ◌%◌, ◌^◌, List, [], ◌∷◌, eqb, leb, get_or}
+-- The table that a decision and settling go by, as the code has it: a row for each slot.
+use Rattle.std.specs.Prelude.{ℕ, Bool, true, false, List, [], get_or}
 use Rattle.masks.specs.Masks.{permits}
 use Rattle.service.specs.Service.{value, more_deserving}
+use Rattle.moves.specs.declared.Standing.{Standing}
+use Rattle.moves.specs.declared.Standing.TheVariants.{Rests, Waits, Expired}
+use Rattle.moves.specs.declared.Row.{Row}
 use Rattle.moves.specs.Decide.{Standings}
 
--- the four words from j on
-abbrev pub four_at : List ℕ → ℕ → List ℕ
-four_at t j = get_or t j 0 ∷ get_or t (j + 1) 0 ∷ get_or t (j + 2) 0 ∷ get_or t (j + 3) 0 ∷ []
+-- a slot that waits
+abbrev pub is_waiting : Standing → Bool
+is_waiting Rests = false
+is_waiting Waits = true
+is_waiting (Expired p) = false
 
--- 1 for a slot that waits, p + 2 for one that runs on pCPU p and may be preempted, 0 for any other
-abbrev pub slot_kind : List ℕ → ℕ → ℕ
-slot_kind t i = get_or t (i * 8) 0
+-- one that runs, and may be preempted
+abbrev pub is_expired : Standing → Bool
+is_expired Rests = false
+is_expired Waits = false
+is_expired (Expired p) = true
 
-abbrev pub slot_weight : List ℕ → ℕ → ℕ
-slot_weight t i = get_or t (i * 8 + 1) 0
+-- the pCPU that it runs on
+abbrev pub expired_on : Standing → ℕ
+expired_on Rests = 0
+expired_on Waits = 0
+expired_on (Expired p) = p
 
-abbrev pub slot_mask : List ℕ → ℕ → ℕ
-slot_mask t i = get_or t (i * 8 + 2) 0 + get_or t (i * 8 + 3) 0 * 2 ^ 32
+-- what is read past the table: no array that it has is read
+abbrev pub no_row : Row
+no_row = record { standing = Rests; mask = 0; service = []; weight = 0; last = 0; leaving = [] }
 
--- its limbs
-abbrev pub slot_service : List ℕ → ℕ → List ℕ
-slot_service t i = four_at t (i * 8 + 4)
-
--- where the pCPU that slot i was last on stands
-abbrev pub last_place : ℕ → ℕ
-last_place i = 1280 + i
-
-abbrev pub slot_last : List ℕ → ℕ → ℕ
-slot_last t i = get_or t (last_place i) 0
-
--- where the service of whoever left pCPU p stands
-abbrev pub leaving_place : ℕ → ℕ
-leaving_place p = 1024 + p % 64 * 4
-
-abbrev pub leaving : List ℕ → ℕ → List ℕ
-leaving t p = four_at t (leaving_place p)
+abbrev pub row_at : List Row → ℕ → Row
+row_at t i = get_or t i no_row
 
 -- what a decision goes by, of a table and the set of idle pCPUs
-unfoldable pub tabled : List ℕ → ℕ → Standings
+unfoldable pub tabled : List Row → ℕ → Standings
 tabled t idle =
     record {
-      waits = λ i. eqb (slot_kind t i) 1;
-      expired = λ i. leb 2 (slot_kind t i);
-      on = λ i. slot_kind t i - 2;
-      mask = slot_mask t;
-      last = slot_last t;
-      beats = λ i j. more_deserving (value (slot_service t i)) (slot_weight t i) (value (slot_service t j)) (slot_weight t j);
+      waits = λ i. is_waiting (row_at t i).standing;
+      expired = λ i. is_expired (row_at t i).standing;
+      on = λ i. expired_on (row_at t i).standing;
+      mask = λ i. (row_at t i).mask;
+      last = λ i. (row_at t i).last;
+      beats =
+          λ i j. more_deserving (value (row_at t i).service) (row_at t i).weight (value (row_at t j).service) (row_at t j).weight;
       idle = permits idle;
     }

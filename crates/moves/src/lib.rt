@@ -1,26 +1,22 @@
 //! The decision over a table of standings, and settling: what is decided is done to the table and logged until nothing is
-//! decided. The table is numbers, lent: a decision copies nothing, and knows neither a system nor a policy.
+//! decided. The table is lent: a decision copies nothing, and knows neither a system nor a policy.
 
 #![tactic(auto)]
 
-ghost use Rattle.std.specs.Prelude.{◌≡◌, true, cond, ◌&&◌, ◌+◌, ◌*◌, ◌%◌, ◌^◌, ◌≤◌, ◌<◌, min, length};
+ghost use Rattle.std.specs.Prelude.{◌≡◌, ℕ, ◌+◌, cond, ◌&&◌, ◌<◌, ◌≤◌, ◌%◌, min, length, replicate};
 ghost use Rattle.masks.specs.Masks.{permits, first};
-ghost use Rattle.moves.specs.declared.Choice.TheVariants.{Run, Preempt};
-ghost use Rattle.moves.specs.Decide.{usable, beaten, decide};
-ghost use Rattle.moves.specs.Table.{four_at, slot_mask, slot_service, slot_last, tabled};
-ghost use Rattle.moves.specs.TableWrites.{put_four, put_kind, put_leaving, put_row, dispatched_in, left_in};
-ghost use Rattle.moves.specs.Settling.{with_pcpu, settled, logged, logged_first};
-ghost use Rattle.moves.specs.Leads.{ahead, StandsExpired, LeadsChosen, LeadsVictim};
+ghost use Rattle.moves.specs.Decide.{beaten, decide};
+ghost use Rattle.moves.specs.Table.{is_waiting, tabled};
+ghost use Rattle.moves.specs.TableWrites.{dispatched_row, left_row};
+ghost use Rattle.moves.specs.Settling.{InRange, choice_of, with_pcpu, with_rest, settled, logged_first};
+ghost use Rattle.moves.specs.Leads.{ahead, goes_before, yields_before, StandsExpired, LeadsChosen, LeadsVictim};
 
-/// How many numbers the table has: eight a slot, and from `LEAVING` four a pCPU, and from `LAST` one a slot.
-pub const TABLE: usize = 1408;
+use service::Service;
+
+/// How many slots the table has.
+pub const SLOTS: usize = 128;
 /// How many moves the log has room for.
 pub const LOG: usize = 320;
-
-// From here four limbs a pCPU: the service that whoever may be preempted there has once it has left.
-const LEAVING: usize = 1024;
-// From here a number a slot: the pCPU that it was last on.
-const LAST: usize = 1280;
 
 /// One move, or none, by the slots of the table.
 #[derive(Clone, Copy)]
@@ -30,297 +26,264 @@ pub enum Choice {
     Rest,
 }
 
+/// A move as the log holds it: a slot goes onto a pCPU, or comes off it.
+// Four bytes, the smaller field first: a log of choices would be six times as large, and is not cleared at once.
+#[derive(Clone, Copy)]
+pub enum Move {
+    Onto { pcpu: u8, at: u16 },
+    Off { pcpu: u8, at: u16 },
+}
+
+/// What part a slot has in a decision.
+#[derive(Clone, Copy)]
+pub enum Standing {
+    /// None.
+    Rests,
+    /// It waits for a pCPU.
+    Waits,
+    /// It runs on this pCPU, and may be preempted.
+    Expired { pcpu: u32 },
+}
+
 /// What the table has of one slot.
 #[derive(Clone, Copy)]
 pub struct Row {
-    /// 1 for one that waits, p + 2 for one that runs on pCPU p and may be preempted, 0 for any other.
-    pub kind: u32,
-    pub weight: u32,
+    pub standing: Standing,
     pub mask: u64,
-    pub service: [u32; 4],
+    pub service: Service,
+    pub weight: u32,
     /// The pCPU that it was last on, or one from 64 up.
     pub last: u32,
+    /// Of one that may be preempted: its service once it has left.
+    pub leaving: Service,
 }
 
-// Who leads a scan so far, with its numbers at hand.
+/// A row for each slot.
+pub type Table = [Row; SLOTS];
+/// Room for the moves of a settling.
+pub type Log = [Move; LOG];
+
+// Who leads a scan so far, with what its row has at hand.
 #[derive(Clone, Copy)]
 struct Leader {
-    found: bool,
     at: usize,
     pcpu: u32,
-    service: [u32; 4],
+    service: Service,
     weight: u32,
 }
 
-impl Leader {
-    const NOBODY: Leader = Leader {
-        found: false,
-        at: 0,
-        pcpu: 0,
-        service: [0; 4],
-        weight: 1,
-    };
-}
+/// A log in which nothing stands yet.
+pub const BLANK: Log = [Move::Onto { pcpu: 0, at: 0 }; LOG];
 
 // ---- the table
 
-// The four numbers from j on.
-fn four_at(table: &[u32; TABLE], j: usize) -> [u32; 4]
-    requires { j + 3 < 1408 }
-    ensures { result ≡ four_at table.now j }
+// It is lent: an array that is made of the constant is stored row by row, which takes five times as long as a copy.
+static RESTING: Table = [Row::RESTING; SLOTS];
+
+/// A table of slots that all rest.
+pub fn resting() -> &'static Table
+    ensures { result.now ≡ replicate 128 Row.RESTING }
 {
-    [table[j], table[j + 1], table[j + 2], table[j + 3]]
+    &RESTING
 }
 
-fn put_four(table: &mut [u32; TABLE], j: usize, w: [u32; 4])
-    requires { j + 3 < 1408 }
-    ensures { table.new ≡ put_four table.old j w }
-{
-    table[j] = w[0];
-    table[j + 1] = w[1];
-    table[j + 2] = w[2];
-    table[j + 3] = w[3];
-}
+impl Row {
+    /// Of one that rests nothing else is read.
+    pub const RESTING: Row = Row {
+        standing: Standing::Rests,
+        mask: 0,
+        service: [0; 4],
+        weight: 0,
+        last: 0,
+        leaving: [0; 4],
+    };
 
-// A number of two halves.
-fn whole(lower: u32, upper: u32) -> u64
-    ensures { result ≡ lower + upper * 2 ^ 32 }
-{
-    lower as u64 + upper as u64 * 0x1_0000_0000
-}
+    fn waits(&self) -> bool
+        ensures { result ≡ is_waiting self.now.standing }
+    {
+        matches!(self.standing, Standing::Waits)
+    }
 
-fn mask_at(table: &[u32; TABLE], i: usize) -> u64
-    requires { i < 128 }
-    ensures { result ≡ slot_mask table.now i }
-{
-    whole(table[i * 8 + 2], table[i * 8 + 3])
-}
+    fn leader(&self, at: usize, pcpu: u32) -> Leader
+        ensures { result ≡ record { at = at; pcpu = pcpu; service = self.now.service; weight = self.now.weight } }
+    {
+        Leader {
+            at,
+            pcpu,
+            service: self.service,
+            weight: self.weight,
+        }
+    }
 
-fn service_at(table: &[u32; TABLE], i: usize) -> [u32; 4]
-    requires { i < 128 }
-    ensures { result ≡ slot_service table.now i }
-{
-    four_at(table, i * 8 + 4)
-}
+    // The lowest-numbered idle pCPU that the mask admits, or 64.
+    fn first_idle_pcpu(&self, idle: u64) -> u32
+        ensures { result ≡ first (λ p. permits idle p && permits self.now.mask p) 64 }
+    {
+        masks::lowest_pcpu(idle & self.mask)
+    }
 
-/// A row stored as that of slot `i`, which is taken modulo 128.
-pub fn put_row(table: &mut [u32; TABLE], i: usize, r: Row)
-    ensures { table.new ≡ put_row table.old (i % 128) r }
-{
-    let i = i % 128;
-    let lower = (r.mask % 0x1_0000_0000) as u32;
-    let upper = (r.mask / 0x1_0000_0000) as u32;
-    let service = r.service;
-    put_four(table, i * 8, [r.kind, r.weight, lower, upper]);
-    put_four(table, i * 8 + 4, service);
-    table[LAST + i] = r.last;
-}
+    // Where it goes: back onto the pCPU that it was last on, where that is idle and its mask admits it; else onto the one that
+    // was found.
+    fn back_to_last(&self, idle: u64, found: u32) -> u32
+        ensures { result ≡ cond (permits idle self.now.last && permits self.now.mask self.now.last) self.now.last found }
+    {
+        if masks::mask_permits(idle & self.mask, self.last) {
+            self.last
+        } else {
+            found
+        }
+    }
 
-/// The kind alone: of a slot that takes no part in a decision nothing else is read.
-pub fn put_kind(table: &mut [u32; TABLE], i: usize, kind: u32)
-    ensures { table.new ≡ put_kind table.old (i % 128) kind }
-{
-    table[i % 128 * 8] = kind;
-}
+    // It went onto pCPU p: where the slice is 0 it may be preempted at once, and leaves with the service that it came with.
+    fn dispatch(&mut self, p: u32, slice: u64)
+        ensures { self.new ≡ dispatched_row slice p self.old }
+    {
+        self.last = p;
+        if slice == 0 {
+            self.standing = Standing::Expired { pcpu: p % 64 };
+            self.leaving = self.service;
+        } else {
+            self.standing = Standing::Rests;
+        }
+    }
 
-/// The service that whoever may be preempted on pCPU `p`, taken modulo 64, has once it has left.
-pub fn put_leaving(table: &mut [u32; TABLE], p: u32, s: [u32; 4])
-    ensures { table.new ≡ put_leaving table.old p s }
-{
-    put_four(table, LEAVING + (p % 64) as usize * 4, s);
+    // It came off its pCPU: it waits, with the service that it had once it had left.
+    fn leave(&mut self)
+        ensures { self.new ≡ left_row self.old }
+    {
+        self.standing = Standing::Waits;
+        self.service = self.leaving;
+    }
 }
 
 // ---- the decision
 
-// The lowest-numbered idle pCPU that the mask admits, or 64.
-fn first_idle_pcpu_for(idle: u64, mask: u64) -> u32
-    ensures { result ≡ first (λ p. permits idle p && permits mask p) 64 }
-{
-    masks::lowest_pcpu(idle & mask)
-}
+impl Leader {
+    // Whether it is more deserving than the other.
+    fn beats(&self, other: &Leader) -> bool
+        ensures { result ≡ ahead self.now other.now }
+    {
+        service::more_deserving(self.service, self.weight, other.service, other.weight)
+    }
 
-// Whether a is more deserving than b.
-fn beats(a: Leader, b: Leader) -> bool
-    ensures { result ≡ ahead a b }
-{
-    let s = a.service;
-    let t = b.service;
-    service::more_deserving(s, a.weight, t, b.weight)
-}
+    // Whether it is to run before the best so far: strict, so that the earliest leads.
+    fn goes_before(&self, best: &Option<Leader>) -> bool
+        ensures { result ≡ goes_before self.now best.now }
+    {
+        match best {
+            Some(best) => self.beats(best),
+            None => true,
+        }
+    }
 
-// Whether next is to run before best: strict, so that the earliest leads.
-fn runs_before(best: Leader, next: Leader) -> bool
-    ensures { result ≡ cond best.found (ahead next best) true }
-{
-    if best.found { beats(next, best) } else { true }
-}
-
-// Whether next is to yield before worst: strict, so that the earliest leads.
-fn yields_before(worst: Leader, next: Leader) -> bool
-    ensures { result ≡ cond worst.found (ahead worst next) true }
-{
-    if worst.found {
-        beats(worst, next)
-    } else {
-        true
+    // Whether it is to yield before the worst so far: strict, so that the earliest leads.
+    fn yields_before(&self, worst: &Option<Leader>) -> bool
+        ensures { result ≡ yields_before self.now worst.now }
+    {
+        match worst {
+            Some(worst) => worst.beats(self),
+            None => true,
+        }
     }
 }
 
 // The most deserving slot that waits and can be placed, with the lowest-numbered pCPU for it.
-fn best_placement(table: &[u32; TABLE], n: usize, idle: u64) -> Leader
-    requires { n ≤ 128 }
-    ensures { LeadsChosen table.now idle n result }
+fn best_placement(rows: &[Row], idle: u64) -> Option<Leader>
+    ensures { LeadsChosen rows.now idle (length rows.now) result }
 {
-    let mut best = Leader::NOBODY;
-    let mut i: usize = 0;
-    while i < n {
-        if table[i * 8] == 1 {
-            let pcpu = first_idle_pcpu_for(idle, mask_at(table, i));
+    let mut best: Option<Leader> = None;
+    for (i, row) in rows.iter().enumerate() {
+        if row.waits() {
+            let pcpu = row.first_idle_pcpu(idle);
             if pcpu < 64 {
-                let next = Leader {
-                    found: true,
-                    at: i,
-                    pcpu,
-                    service: service_at(table, i),
-                    weight: table[i * 8 + 1],
-                };
-                if runs_before(best, next) {
-                    best = next;
+                let next = row.leader(i, pcpu);
+                if next.goes_before(&best) {
+                    best = Some(next);
                 }
             }
         }
-        i += 1;
     }
     best
 }
 
-// Where slot i goes: back onto the pCPU that it was last on, where that is idle and its mask admits it; else onto the one that
-// was found.
-fn back_to_last(table: &[u32; TABLE], i: usize, idle: u64, found: u32) -> u32
-    requires { i < 128 }
-    ensures { result ≡ cond (usable (tabled table.now idle) i (slot_last table.now i))
-        (slot_last table.now i) found }
-{
-    let last = table[LAST + i];
-    let mask = mask_at(table, i);
-    if masks::mask_permits(idle & mask, last) {
-        last
-    } else {
-        found
-    }
-}
-
 // Whether some slot that waits, and whose mask admits the runner's pCPU, beats the runner.
-fn some_affine_waiter_beats(table: &[u32; TABLE], n: usize, runner: Leader) -> bool
-    requires { (n ≤ 128) × StandsExpired table.now runner }
-    ensures { result ≡ beaten (tabled table.now 0) n runner.at }
+fn some_affine_waiter_beats(rows: &[Row], runner: &Leader) -> bool
+    requires { StandsExpired rows.now runner.now }
+    ensures { result ≡ beaten (tabled rows.now 0) (length rows.now) runner.now.at }
 {
-    let s = runner.service;
-    let mut i: usize = 0;
-    while i < n {
-        if table[i * 8] == 1 {
-            if masks::mask_permits(mask_at(table, i), runner.pcpu) {
-                if service::more_deserving(
-                    service_at(table, i),
-                    table[i * 8 + 1],
-                    s,
-                    runner.weight,
-                ) {
-                    return true;
-                }
-            }
+    for row in rows {
+        if row.waits()
+            && masks::mask_permits(row.mask, runner.pcpu)
+            && service::more_deserving(row.service, row.weight, runner.service, runner.weight)
+        {
+            return true;
         }
-        i += 1;
     }
     false
 }
 
 // The least deserving expired slot that some waiter beats. Whether it would lead is tested first: that is
 // cheaper, and the answer is the same.
-fn best_preemption(table: &[u32; TABLE], n: usize) -> Leader
-    requires { n ≤ 128 }
-    ensures { LeadsVictim table.now n result }
+fn best_preemption(rows: &[Row]) -> Option<Leader>
+    ensures { LeadsVictim rows.now (length rows.now) result }
 {
-    let mut worst = Leader::NOBODY;
-    let mut i: usize = 0;
-    while i < n {
-        let k = table[i * 8];
-        if 2 <= k {
-            let next = Leader {
-                found: true,
-                at: i,
-                pcpu: k - 2,
-                service: service_at(table, i),
-                weight: table[i * 8 + 1],
-            };
-            if yields_before(worst, next) {
-                if some_affine_waiter_beats(table, n, next) {
-                    worst = next;
-                }
+    let mut worst: Option<Leader> = None;
+    for (i, row) in rows.iter().enumerate() {
+        if let Standing::Expired { pcpu } = row.standing {
+            let next = row.leader(i, pcpu);
+            if next.yields_before(&worst) && some_affine_waiter_beats(rows, &next) {
+                worst = Some(next);
             }
         }
-        i += 1;
     }
     worst
 }
 
-// The lesser of two numbers.
-fn least(n: usize, m: usize) -> usize
-    ensures { result ≡ min n m }
+fn decide_among(rows: &[Row], idle: u64) -> Choice
+    ensures { result ≡ decide (tabled rows.now idle) (length rows.now) }
 {
-    if n < m { n } else { m }
-}
-
-/// The next move over the first `n` slots, at most 128; `idle` is the set of idle pCPUs.
-pub fn decide(table: &[u32; TABLE], n: usize, idle: u64) -> Choice
-    ensures { result ≡ decide (tabled table.now idle) (min n 128) }
-{
-    let slots = least(n, 128);
     if idle != 0 {
-        let best = best_placement(table, slots, idle);
-        if best.found {
+        if let Some(best) = best_placement(rows, idle) {
             return Choice::Run {
                 at: best.at,
-                pcpu: back_to_last(table, best.at, idle, best.pcpu),
+                pcpu: rows[best.at].back_to_last(idle, best.pcpu),
             };
         }
     }
-    let worst = best_preemption(table, slots);
-    if worst.found {
-        Choice::Preempt {
+    match best_preemption(rows) {
+        Some(worst) => Choice::Preempt {
             at: worst.at,
             pcpu: worst.pcpu,
-        }
-    } else {
-        Choice::Rest
+        },
+        None => Choice::Rest,
     }
+}
+
+/// The next move over the first `n` slots, at most 128; `idle` is the set of idle pCPUs.
+pub fn decide(table: &Table, n: usize, idle: u64) -> Choice
+    ensures { result ≡ decide (tabled table.now idle) (min n 128) }
+{
+    decide_among(&table[..n.min(SLOTS)], idle)
 }
 
 // ---- settling
 
-// Slot i went onto pCPU p: where the slice is 0 it may be preempted at once, and leaves with the service that it came with.
-fn dispatch(table: &mut [u32; TABLE], i: usize, p: u32, slice: u64)
-    requires { i < 128 }
-    ensures { table.new ≡ dispatched_in slice table.old i p }
-{
-    let service = service_at(&*table, i);
-    table[LAST + i] = p;
-    if slice == 0 {
-        table[i * 8] = p % 64 + 2;
-        put_leaving(table, p, service);
-    } else {
-        table[i * 8] = 0;
-    }
-}
+impl From<Move> for Choice {
+    ghost from_gives = { λ m c. c ≡ choice_of m };
 
-// Slot i came off pCPU p: it waits, with the service that it had once it had left.
-fn leave(table: &mut [u32; TABLE], i: usize, p: u32)
-    requires { i < 128 }
-    ensures { table.new ≡ left_in table.old i p }
-{
-    let service = four_at(&*table, LEAVING + (p % 64) as usize * 4);
-    table[i * 8] = 1;
-    put_four(table, i * 8 + 4, service);
+    // % 128 and % 64 keep them in range without a precondition.
+    fn from(m: Move) -> Choice {
+        match m {
+            Move::Onto { pcpu, at } => Choice::Run {
+                at: (at % 128) as usize,
+                pcpu: (pcpu % 64) as u32,
+            },
+            Move::Off { pcpu, at } => Choice::Preempt {
+                at: (at % 128) as usize,
+                pcpu: (pcpu % 64) as u32,
+            },
+        }
+    }
 }
 
 // The set with pCPU p; one that has it stays as it is, so that no sum leaves the word.
@@ -334,58 +297,62 @@ fn with_pcpu(idle: u64, p: u32) -> u64
     }
 }
 
-// A dispatch as a number of the log.
-fn run_number(at: usize, pcpu: u32) -> u16
-    requires { (at < 128) × (pcpu < 64) }
-    ensures { logged result ≡ Run at pcpu }
+/// The next move of a settling over the first `n` slots, at most 128: decides, and does what is decided to the table and to the set
+/// of idle pCPUs.
+pub fn make_move(table: &mut Table, n: usize, idle: &mut u64, slice: u64) -> Choice
+    ensures within { InRange result }
+    ensures next { (k : ℕ) → settled slice (min n 128) (k + 1) table.old idle.old ≡ with_rest result (settled slice (min n 128) k table.new idle.new) }
 {
-    (at * 128) as u16 + pcpu as u16
+    match decide(&*table, n, *idle) {
+        Choice::Run { at, pcpu } => {
+            table[at].dispatch(pcpu, slice);
+            *idle -= masks::pcpu_bit(pcpu);
+            Choice::Run { at, pcpu }
+        }
+        Choice::Preempt { at, pcpu } => {
+            table[at].leave();
+            *idle = with_pcpu(*idle, pcpu % 64);
+            Choice::Preempt {
+                at,
+                pcpu: pcpu % 64,
+            }
+        }
+        Choice::Rest => Choice::Rest,
+    }
 }
 
-// A preemption as a number of the log.
-fn preempt_number(at: usize, pcpu: u32) -> u16
-    requires { at < 128 }
-    ensures { logged result ≡ Preempt at (pcpu % 64) }
-{
-    (at * 128) as u16 + 64 + (pcpu % 64) as u16
-}
-
-// How many moves the log has room for. Asked of a slice: only there is it known how long a lent array is.
-fn room_in(log: &[u16]) -> usize
-    ensures { result ≡ length log.now }
-{
-    log.len()
-}
-
-/// Decides, does what is decided to the table and logs it, until nothing is decided: over the first `n` slots, at most 128, and at
-/// most `most` moves, or 320. The answer is how many moves there are.
+/// Makes and logs a move after another until there is none: over the first `n` slots, at most 128, and at most `most` moves, or 320.
+/// The answer is how many there are.
 pub fn settle(
-    table: &mut [u32; TABLE],
-    log: &mut [u16; LOG],
+    table: &mut Table,
+    log: &mut Log,
     n: usize,
     mut idle: u64,
     most: usize,
     slice: u64,
 ) -> usize
+    ensures within { result ≤ 320 }
     ensures value { result ≡ length (settled slice (min n 128) (min most 320) table.old idle) }
     ensures result_after { logged_first log.new result ≡ settled slice (min n 128) (min most 320) table.old idle }
 {
-    let mut left = least(most, room_in(&*log));
+    let mut left = most.min(LOG);
     let mut count: usize = 0;
     // One exit: with a second one the scans of a decision are a tenth slower.
     while left > 0 {
-        match decide(&*table, n, idle) {
+        match make_move(table, n, &mut idle, slice) {
             Choice::Run { at, pcpu } => {
-                log[count] = run_number(at, pcpu);
-                dispatch(table, at, pcpu, slice);
-                idle = idle - masks::pcpu_bit(pcpu);
+                log[count] = Move::Onto {
+                    pcpu: pcpu as u8,
+                    at: at as u16,
+                };
                 count += 1;
                 left -= 1;
             }
             Choice::Preempt { at, pcpu } => {
-                log[count] = preempt_number(at, pcpu);
-                leave(table, at, pcpu);
-                idle = with_pcpu(idle, pcpu % 64);
+                log[count] = Move::Off {
+                    pcpu: pcpu as u8,
+                    at: at as u16,
+                };
                 count += 1;
                 left -= 1;
             }
@@ -395,17 +362,4 @@ pub fn settle(
         }
     }
     count
-}
-
-/// The move that a number of the log stands for.
-pub fn logged(x: u16) -> Choice
-    ensures { result ≡ logged x }
-{
-    let at = (x / 128 % 128) as usize;
-    let pcpu = (x % 64) as u32;
-    if x % 128 < 64 {
-        Choice::Run { at, pcpu }
-    } else {
-        Choice::Preempt { at, pcpu }
-    }
 }

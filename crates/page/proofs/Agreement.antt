@@ -1,4 +1,5 @@
 -- A system that agrees with the book of demand 3 agrees with the page's. Assumes nothing.
+use Rattle.std.specs.Prelude.{None, Some}
 use Prim.Native.Nat.{ℕ, zero, suc, ◌+◌, ◌*◌, ◌≤◌, ◌<◌}
 use mathlib.Core.Bool.{Bool, true, false, cond, ◌&&◌, and-false}
 use mathlib.Core.Logic.{◌⊎◌, inl, inr}
@@ -12,9 +13,6 @@ use Rattle.system.specs.declared.RunState.TheVariants.{Offline, Runnable, Runnin
 use Rattle.system.specs.declared.VirtualCpu.{VirtualCpu}
 use Rattle.system.specs.declared.Occupant.TheVariants.{Idle}
 use Rattle.system.specs.declared.System.{System}
-use Rattle.system.specs.declared.MaybeVcpu.{MaybeVcpu}
-use Rattle.system.specs.declared.MaybeState.{MaybeState}
-use Rattle.system.specs.declared.MaybeU64.{MaybeU64}
 use Rattle.system.specs.States.{while_running}
 use Rattle.system.specs.Reads.{vcpu_at, occupant_at, affinity_permits, count}
 use Rattle.scans.specs.Scan.{Pick, some}
@@ -105,11 +103,11 @@ module _ (k : page.Shape) (sized : Sized k) (b : Book) (s : System) (A : agreeme
       record {
         lines = λ d v x y. rw (line-is k b d v (omega (arith, sized.vcpus))) (says (A.lines (d * 8 + v) (present k sized x y)));
         records = λ d v.
-            ap₂ (λ (m n : ℕ). cond (ltb d m && ltb v n) (MaybeVcpu.Some (vcpu s d v)) MaybeVcpu.None) R.domains
+            ap₂ (λ (m n : ℕ). cond (ltb d m && ltb v n) (Some (vcpu s d v)) None) R.domains
             (omega (arith, A.shape.vcpus, sized.vcpus));
         states = λ d v.
             sym (state-of-is s d v)
-            ∙ by-line (λ l. MaybeState.Some l.state) _ d v (λ x y. (R.line d v x y).state) (λ x. (R.absent d v x).state);
+            ∙ by-line (λ l. Some l.state) _ d v (λ x y. (R.line d v x y).state) (λ x. (R.absent d v x).state);
         running = λ d v.
             sym (is-running-is s d v)
             ∙ (by-line (λ l. cond (reads.running l.state) true false) false d v
@@ -117,17 +115,17 @@ module _ (k : page.Shape) (sized : Sized k) (b : Book) (s : System) (A : agreeme
             ∙ (cond-and (has k d v) _ true false ∙ cond-is (has k d v && _)));
         run-times = λ d v.
             sym (runtime-is s d v)
-            ∙ by-line (λ l. MaybeU64.Some l.time) _ d v (λ x y. (R.line d v x y).runtime) (λ x. (R.absent d v x).runtime);
+            ∙ by-line (λ l. Some l.time) _ d v (λ x y. (R.line d v x y).runtime) (λ x. (R.absent d v x).runtime);
         masks = λ d v.
             sym (affinity-of-is s d v)
-            ∙ by-line (λ l. MaybeU64.Some l.mask) _ d v (λ x y. (R.line d v x y).affinity) (λ x. (R.absent d v x).affinity);
+            ∙ by-line (λ l. Some l.mask) _ d v (λ x y. (R.line d v x y).affinity) (λ x. (R.absent d v x).affinity);
         permits = λ d v p.
             sym (affinity-permits-is s d v p)
             ∙ (by-line (λ l. admits l.mask p) false d v (λ x y. permits-is d v p x y) (λ x. (R.absent d v x).permits p)
             ∙ and_is (has k d v) _);
         clocks = λ d v.
             sym (since-is s d v)
-            ∙ (by-line (λ l. cond (reads.running l.state) (MaybeU64.Some l.clock) MaybeU64.None) _ d v
+            ∙ (by-line (λ l. cond (reads.running l.state) (Some l.clock) None) _ d v
             (λ x y. (R.line d v x y).since ∙ running-is (b (d * 8 + v)).state _ _) (λ x. (R.absent d v x).since)
             ∙ cond-and (has k d v) _ _ _);
         used = λ d r. sym (usage-is s d r) ∙ used d r (ltb d k.domains) refl;

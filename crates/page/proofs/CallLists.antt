@@ -1,4 +1,6 @@
 -- Lists of calls in the page's words are those of demand 3: what fits its types, weights and clocks. Assumes nothing.
+use Rattle.std.specs.Prelude.{Option, None, Some}
+use Rattle.std.specs.Option.{option_or}
 use Prim.Native.Nat.{ℕ}
 use mathlib.Core.Bool.{cond}
 use mathlib.Core.List.{List, [], ◌∷◌}
@@ -17,15 +19,14 @@ use Rattle.demand3.specs.Lists as lists
 use Rattle.demand3.specs.Weights as weights
 use Rattle.page.specs.Steps as steps
 use Rattle.page.specs.Lists as page
-use Rattle.page.specs.Lists.{Clock, none, at}
 use Rattle.page.specs.DatedMoves.{request_clock, clock_of, Forward, done, timed, untimed, refused}
 use Rattle.page.proofs.Steps.{step_is}
 
 -- ---- a call
 
-abbrev pub clocked : lists.Clock → Clock
-clocked lists.none = none
-clocked (lists.at t) = at t
+abbrev pub clocked : lists.Clock → Option ℕ
+clocked lists.none = None
+clocked (lists.at t) = Some t
 
 pub same-clock : (c e : lists.Clock) → clocked c ≡ clocked e → c ≡ e
 same-clock lists.none lists.none x = refl
@@ -90,9 +91,9 @@ weight-after-is f cs d v = ap (λ (w : ℕ). cond (in_shape f.domains f.vcpus d 
 pub latest-is : (cs : List Call) → clocked (lists.latest cs) ≡ page.latest cs
 unfolding lists.latest page.latest
 latest-is [] = refl
-latest-is (c ∷ cs) = or_is (lists.latest cs) (lists.advance_clock c) ∙ ap₂ page.or_earlier (latest-is cs) (same-call c).advance
+latest-is (c ∷ cs) = or_is (lists.latest cs) (lists.advance_clock c) ∙ ap₂ option_or (latest-is cs) (same-call c).advance
   where
-    or_is : (x y : lists.Clock) → clocked (lists.or_earlier x y) ≡ page.or_earlier (clocked x) (clocked y)
+    or_is : (x y : lists.Clock) → clocked (lists.or_earlier x y) ≡ option_or (clocked x) (clocked y)
     or_is lists.none y = refl
     or_is (lists.at t) y = refl
 

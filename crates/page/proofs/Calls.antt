@@ -1,4 +1,5 @@
 -- The transitions are the page's, of any system. Assumes nothing.
+use Rattle.std.specs.Prelude.{Ok, Err}
 use Prim.Native.Nat.{ℕ, zero, suc, ◌%◌, ◌^◌, ◌≤◌, ◌<◌, min}
 use mathlib.Core.Bool.{Bool, true, false, cond}
 use mathlib.Core.Path.{◌≡◌, refl, ◌∙◌, ap, ap₂}
@@ -18,7 +19,7 @@ use Rattle.system.specs.Reads as reads
 use Rattle.system.specs.Reads.{vcpu_at, occupant_at, full_affinity}
 use Rattle.verdict.specs.Violations.{invariants_hold}
 use Rattle.calls.specs.declared.Request.{Request}
-use Rattle.changes.specs.declared.Change.TheVariants.{Refuse, Enter}
+use Rattle.changes.specs.declared.Change.TheVariants.{Enter}
 use Rattle.changes.specs.Records.{dispatched, left}
 use Rattle.changes.specs.Changes as changes
 use Rattle.changes.specs.Changes.{reaches}
@@ -60,7 +61,7 @@ made-is s d v l Request.Admit = go (vcpu s d v).state
 made-is s d v l (Request.Run p now) = go (vcpu s d v).state
   where
     enter : (b : Bool)
-        → tell (applied s (slot d v) (cond b (Enter (dispatched (vcpu s d v) p now) p) (Refuse Answer.NotAffine)))
+        → tell (applied s (slot d v) (cond b (Ok (Enter (dispatched (vcpu s d v) p now) p)) (Err Answer.NotAffine)))
         ≡ test b 6 s (test (page.is_idle (holder s p)) 5 s
         (done (page.put_holder (page.put_vcpu s d v (page.vc (Running p) (vcpu s d v).runtime now (vcpu s d v).affinity p)) p (Vcpu d v))))
     enter true =
@@ -107,7 +108,7 @@ made-is s d v l (Request.SetAffinity m) = go (vcpu s d v).state
     go (Running p) = turn (admits clip p)
       where
         turn : (b : Bool)
-            → tell (applied s (slot d v) (cond b (changes.masked (vcpu s d v) clip Offline) (Refuse Answer.NotAffine)))
+            → tell (applied s (slot d v) (cond b (changes.masked (vcpu s d v) clip Offline) (Err Answer.NotAffine)))
             ≡ test b 6 s (masking s d v clip Offline)
         turn true = refl
         turn false = refl

@@ -1,4 +1,5 @@
 -- Demand 3 in the page's words holds: one theorem over every list of calls of every fresh host. Assumes nothing.
+use Rattle.std.specs.Prelude.{Some}
 use Prim.Native.Nat.{ℕ, ◌+◌, ◌-◌, ◌*◌, ◌/◌, ◌%◌, ◌^◌, ◌≤◌, ◌<◌, min}
 use mathlib.Core.Bool.{Bool, true, false, cond, and-false}
 use mathlib.Core.List.{List, [], ◌∷◌, ◌++◌, map}
@@ -29,7 +30,7 @@ use Rattle.page.specs.Book as book
 use Rattle.page.specs.Page as page
 use Rattle.page.specs.Page.{account, number, pooled, service, admits}
 use Rattle.page.specs.Steps as steps
-use Rattle.page.specs.Lists.{Fresh, Sized, AllTyped, PoolList, weight_after, latest, at, service_of}
+use Rattle.page.specs.Lists.{Fresh, Sized, AllTyped, PoolList, weight_after, latest, service_of}
 use Rattle.page.specs.Demand3.{Demand3, At, Advances, is_on, moves_on}
 use Rattle.page.proofs.Loops.{who}
 use Rattle.page.proofs.Standing.{weight_is, offset-is, service-is}
@@ -112,7 +113,7 @@ module _ (f : Fresh) (sized : Sized f.shape) (cs before rest : List Call) (typed
       let y : (d * 8 + v) % 8 ≡ v = omega (arith, small l) in
       ap₂ (weights.weight_after f.domains f.vcpus before) x y ∙ weight-after-is f before d v
 
-  lag : (g : ℕ) → PoolList f g cs → 1 ≤ f.slice → (t r : ℕ) → latest before ≡ at t → r ≤ t + g
+  lag : (g : ℕ) → PoolList f g cs → 1 ≤ f.slice → (t r : ℕ) → latest before ≡ Some t → r ≤ t + g
       → (d v e u : ℕ) → d < k.domains → v < k.vcpus → e < k.domains → u < k.vcpus
       → pooled (booked k b d v).state ≡ true → (booked k b e u).state ≡ Runnable
       → let w = weight_after f before in

@@ -1,6 +1,7 @@
 -- Each clause of demand 3 that is of every list, at the ends of the largest host, 16 × 8 on 64: the last vCPU, the last
 -- pCPU, ids past them, the largest clock and weight. It is written out with the numbers themselves: a clause that said
 -- less would not give it. Assumes nothing.
+use Rattle.std.specs.Prelude.{None, Some}
 use Prim.Native.Nat.{ℕ, ◌+◌, ◌-◌, ◌^◌, ◌≤◌, ◌<◌, min}
 use mathlib.Core.Bool.{true, false, cond, ◌&&◌}
 use mathlib.Core.List.{List, [], ◌∷◌, ◌++◌}
@@ -12,10 +13,6 @@ use Rattle.system.specs.declared.RunState.TheVariants.{Runnable, Running}
 use Rattle.system.specs.declared.VirtualCpu.{VirtualCpu}
 use Rattle.system.specs.declared.Occupant.TheVariants.{Idle, Vcpu}
 use Rattle.system.specs.declared.System.{System}
-use Rattle.system.specs.declared.MaybeVcpu.{MaybeVcpu}
-use Rattle.system.specs.declared.MaybeState.{MaybeState}
-use Rattle.system.specs.declared.MaybeU64.{MaybeU64}
-use Rattle.verdict.specs.declared.Violation.TheVariants.{None}
 use Rattle.policy.specs.declared.Scheduler.{Scheduler}
 use Rattle.advance.specs.declared.Decision.{Decision}
 use Rattle.host.specs.declared.Host.{Host}
@@ -71,11 +68,11 @@ module _ (e u q : ℕ) (cs before rest : List Call) (typed : AllTyped cs) (split
       let y = here.agrees.lines 15 7 (omega arith) (omega arith) in
       (y.state, y.time, y.mask, y.clock 63, here.clipped 15 7 (omega arith) (omega arith))
 
-  pub read-there : (reads.vcpu_of s 15 7 ≡ MaybeVcpu.Some x) × (reads.state_of s 15 7 ≡ MaybeState.Some l.state)
-      × (reads.is_running s 15 7 ≡ reads.running l.state) × (reads.runtime s 15 7 ≡ MaybeU64.Some l.time)
-      × (reads.affinity_of s 15 7 ≡ MaybeU64.Some l.mask) × (reads.affinity_permits s 15 7 63 ≡ admits l.mask 63)
+  pub read-there : (reads.vcpu_of s 15 7 ≡ Some x) × (reads.state_of s 15 7 ≡ Some l.state)
+      × (reads.is_running s 15 7 ≡ reads.running l.state) × (reads.runtime s 15 7 ≡ Some l.time)
+      × (reads.affinity_of s 15 7 ≡ Some l.mask) × (reads.affinity_permits s 15 7 63 ≡ admits l.mask 63)
       × (reads.affinity_permits s 15 7 64 ≡ false)
-      × (reads.on_cpu_since s 15 7 ≡ cond (reads.running l.state) (MaybeU64.Some l.clock) MaybeU64.None)
+      × (reads.on_cpu_since s 15 7 ≡ cond (reads.running l.state) (Some l.clock) None)
   read-there =
       let a = here.agrees in (
         a.records 15 7,
@@ -89,10 +86,10 @@ module _ (e u q : ℕ) (cs before rest : List Call) (typed : AllTyped cs) (split
       )
 
   abbrev Absent : ℕ → ℕ → Type 0
-  Absent d v = (reads.vcpu_of s d v ≡ MaybeVcpu.None) × (reads.state_of s d v ≡ MaybeState.None)
-      × (reads.is_running s d v ≡ false) × (reads.runtime s d v ≡ MaybeU64.None)
-      × (reads.affinity_of s d v ≡ MaybeU64.None) × (reads.affinity_permits s d v 63 ≡ false)
-      × (reads.on_cpu_since s d v ≡ MaybeU64.None)
+  Absent d v = (reads.vcpu_of s d v ≡ None) × (reads.state_of s d v ≡ None)
+      × (reads.is_running s d v ≡ false) × (reads.runtime s d v ≡ None)
+      × (reads.affinity_of s d v ≡ None) × (reads.affinity_permits s d v 63 ≡ false)
+      × (reads.on_cpu_since s d v ≡ None)
 
   pub absent-there : Absent 16 7 × Absent 15 8
   absent-there =

@@ -1,4 +1,5 @@
 -- A load, its records one by one and its whole script are the page's, of any seed, shape and count. Assumes nothing.
+use Rattle.std.specs.Prelude.{None, Some}
 use Prim.Native.Nat.{ℕ, zero, suc, ◌-◌, ◌*◌}
 use mathlib.Core.Bool.{Bool, true, false, cond, ◌&&◌}
 use mathlib.Core.List.{List, ◌++◌}
@@ -13,9 +14,6 @@ use Rattle.records.specs.Bytes as written
 use Rattle.load_calls.specs.declared.Called.{Called}
 use Rattle.load_script.specs.declared.Load.{Load}
 use Rattle.load_script.specs.declared.Opened.{Opened}
-use Rattle.load_script.specs.declared.Handed.{Handed}
-use Rattle.load_script.specs.declared.MaybeRecord.{MaybeRecord}
-use Rattle.load_script.specs.declared.Filled.{Filled}
 use Rattle.load_calls.specs.Calls as calls
 use Rattle.load_script.specs.Loads as loads
 use Rattle.load_script.proofs.Laws.{record_is}
@@ -58,6 +56,12 @@ hands-load seed s count r e =
     }
 
 -- ---- handed out, of any load
+abbrev pub handing : loads.Handed → page.Handed
+handing r = record { next = r.next; load = r.load }
+
+abbrev pub filling : loads.Filled → page.Filled
+filling r = record { load = r.load; written = r.written }
+
 module _ (l : Load) where
   next-call-is : loads.next_call l ≡ page.next_call l
   next-call-is = called_is l.build.dom l.build.vcpu l.generator.state l.clock
@@ -76,15 +80,22 @@ module _ (l : Load) where
   pub left_is : loads.size l ≡ page.left l
   left_is = refl
 
-  pub handed-is : loads.handed l ≡ page.handed l
+  pub handed-is : handing (loads.handed l) ≡ page.handed l
   handed-is =
-      ap₂ (λ (r : Record) (m : Load). cond (eqb (loads.size l) 0) none (some r m)) first-is rest-is ∙ go (page.left l)
+      over (eqb (loads.size l) 0)
+      ∙ (ap₂ (λ (r : Record) (m : Load). cond (eqb (loads.size l) 0) none (some r m)) first-is rest-is ∙ go (page.left l))
     where
-      none : Handed
-      none = record { next = MaybeRecord.None; load = l }
+      none : page.Handed
+      none = record { next = None; load = l }
 
-      some : Record → Load → Handed
-      some r m = record { next = MaybeRecord.Some r; load = m }
+      some : Record → Load → page.Handed
+      some r m = record { next = Some r; load = m }
+
+      over : (b : Bool)
+          → handing (cond b (record { next = None; load = l }) (record { next = Some (loads.first l); load = loads.rest l }))
+          ≡ cond b none (some (loads.first l) (loads.rest l))
+      over true = refl
+      over false = refl
 
       go : (n : ℕ) → cond (eqb n 0) none (some (page.first l) (page.rest l))
           ≡ cond (leb 1 n) (some (page.first l) (page.rest l)) none
@@ -106,10 +117,10 @@ module _ (l : Load) where
       ∙ (ap written.record_bytes (first-is (page.load_after n l)) ∙ record_bytes_are (page.first (page.load_after n l))))
 
   -- what `fill` hands back, and what it leaves of the bytes that it writes over
-  pub filled_is : (out : List ℕ) → loads.filled l out ≡ page.filled l out
+  pub filled_is : (out : List ℕ) → filling (loads.filled l out) ≡ page.filled l out
   filled_is out = ap filled (after_is (page.fitting l out))
     where
-      filled : Load → Filled
+      filled : Load → page.Filled
       filled m = record { load = m; written = page.fitting l out * 20 }
 
   pub filled-out-is : (out : List ℕ) → sets out 0 (loads.stretch (loads.fitting l out) l) ≡ page.filled_out l out

@@ -1,6 +1,7 @@
 -- What the dated moves tell, at the ends of the largest host, 16 × 8 on 64, with a policy of any shape and any slice, 0
 -- included: the last vCPU, the last pCPU and one past it, a later move of an advance, the largest clock. It is written
 -- out with the numbers themselves: a clause that said less would not give it. Assumes nothing.
+use Rattle.std.specs.Prelude.{Option, Some}
 use Prim.Native.Nat.{ℕ, ◌+◌, ◌-◌, ◌^◌, ◌≤◌, ◌<◌, min}
 use mathlib.Core.List.{List, [], ◌∷◌, ◌++◌}
 use mathlib.Core.Path.{◌≡◌, refl, sym, ◌∙◌, ap, ap₂, subst}
@@ -14,14 +15,14 @@ use Rattle.page.specs.Host.{Found, nobody, one, vcpu}
 use Rattle.page.specs.Steps.{step}
 use Rattle.page.specs.Book.{Line, Book, Dated, Entry, onto, off, holder, enter}
 use Rattle.page.specs.Lists as lists
-use Rattle.page.specs.Lists.{Clock, at, host_after, book_after, moves_after}
+use Rattle.page.specs.Lists.{host_after, book_after, moves_after}
 use Rattle.page.specs.DatedMoves.{Hold, free, by, held_by, held_after, moved, Turns, AllAt, pcpu_of, date_of}
 use Rattle.page.specs.DatedMoves.{last_after, Tells, Forward, Uncut}
 use Rattle.page.proofs.DatedMoves.{every_list_tells}
 use Rattle.page.proofs.Ends.{k, largest, sizes}
 
 -- of moves that are all at a clock, a later one too
-later-dated : (t : Clock) (ms ns : List Dated) (m : Dated) → AllAt t (ms ++ (m ∷ ns)) → t ≡ at (date_of m)
+later-dated : (t : Option ℕ) (ms ns : List Dated) (m : Dated) → AllAt t (ms ++ (m ∷ ns)) → t ≡ Some (date_of m)
 later-dated t [] ns m a = a.0
 later-dated t (x ∷ ms) ns m a = later-dated t ms ns m a.1
 
@@ -107,9 +108,9 @@ module _ (e u q : ℕ) (cs : List Call) where
       → (entered (Call.Advance (2 ^ 64 - 1))).moves ≡ ms ++ (onto 15 7 63 now ∷ ns) → now ≡ 2 ^ 64 - 1
   dated-there ms ns now y =
       same (later-dated _ ms ns (onto 15 7 63 now)
-      (subst (AllAt (at (2 ^ 64 - 1))) y (here.moves.clocks (Call.Advance (2 ^ 64 - 1)))))
+      (subst (AllAt (Some (2 ^ 64 - 1))) y (here.moves.clocks (Call.Advance (2 ^ 64 - 1)))))
     where
-      same : {c n : ℕ} → at c ≡ at n → n ≡ c
+      same : {c n : ℕ} → Some c ≡ Some n → n ≡ c
       same x = cc
 
   pub refused-there : (c : Call) → ((entered c).number ≡ 0 → ⊥)

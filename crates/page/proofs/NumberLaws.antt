@@ -1,4 +1,5 @@
 -- Numbers in bytes, in decimal and among arguments are the page's, for all numbers and bytes. Assumes nothing.
+use Rattle.std.specs.Prelude.{None, Some}
 use Prim.Native.Nat.{ℕ, zero, suc, ◌+◌, ◌-◌, ◌*◌, ◌/◌, ◌%◌, ◌^◌, ◌<◌}
 use mathlib.Core.Bool.{Bool, true, false, cond, ◌&&◌}
 use mathlib.Core.List.{List, [], ◌∷◌, ◌++◌, append_assoc}
@@ -8,7 +9,6 @@ use native.Mathlib.Omega.{arith}
 use lib.Dec.{ltb, lit<}
 use lib.ListN.{length, get_or}
 use borrow.Author.Tests.{lt-ltb, le-ltb, ltb-true, ltb-false}
-use Rattle.text.specs.declared.MaybeNumber.TheVariants.{None, Some}
 use Rattle.text.specs.Lines as lines
 use Rattle.text.specs.Numerals as numerals
 use Rattle.big_endian.specs.Numbers as numbers

@@ -1,6 +1,7 @@
 -- Each clause of demand 3 that is of a pool list, at the ends of the largest host, 16 × 8 on 64: the last vCPUs, slice 1,
 -- G of 0 and of 2^64 − 1, the largest clock and weight, the last reading. It is written out with the numbers themselves:
 -- a clause that said less would not give it. Assumes nothing.
+use Rattle.std.specs.Prelude.{Some}
 use Prim.Native.Nat.{ℕ, ◌+◌, ◌-◌, ◌*◌, ◌^◌, ◌≤◌, ◌<◌}
 use mathlib.Core.Bool.{true}
 use mathlib.Core.List.{List, ◌++◌}
@@ -13,7 +14,7 @@ use Rattle.page.specs.Policy.{account, number}
 use Rattle.page.specs.Standing.{in_flight, service}
 use Rattle.page.specs.Accounting.{pooled}
 use Rattle.page.specs.Book.{Book}
-use Rattle.page.specs.Lists.{AllTyped, PoolList, host_after, book_after, weight_from, weight_after, latest, at}
+use Rattle.page.specs.Lists.{AllTyped, PoolList, host_after, book_after, weight_from, weight_after, latest}
 use Rattle.page.specs.Demand3.{Pools}
 use Rattle.page.proofs.Demand3.{demand_3}
 use Rattle.page.proofs.Ends.{largest, sizes}
@@ -48,7 +49,7 @@ module _ (cs before rest : List Call) (typed : AllTyped cs) (split : cs ≡ befo
           (here.offsets 15 7, here.offsets 16 7, here.offsets 15 8, services)
 
       -- d/v is in the pool and e/u waits; the latest advance was at the largest clock, and the reading is up to G later
-      lag : (r d v e u : ℕ) → r ≤ 2 ^ 64 - 1 + g → d < 16 → v < 8 → e < 16 → u < 8 → latest before ≡ at (2 ^ 64 - 1)
+      lag : (r d v e u : ℕ) → r ≤ 2 ^ 64 - 1 + g → d < 16 → v < 8 → e < 16 → u < 8 → latest before ≡ Some (2 ^ 64 - 1)
           → pooled (b d v).state ≡ true → (b e u).state ≡ Runnable
           → S r d v * w e u ≤ S r e u * w d v + (1 + g - 1) * w e u
       lag r d v e u early xd xv xe xu late = here.lag (omega arith) (2 ^ 64 - 1) r late early d v e u xd xv xe xu
@@ -57,7 +58,7 @@ module _ (cs before rest : List Call) (typed : AllTyped cs) (split : cs ≡ befo
 
   abbrev Lags : ℕ → ℕ → Type 0
   Lags r bound = weight_from 15 7 256 before ≡ 2 ^ 32 - 1 → weight_from 15 6 256 before ≡ 256
-      → latest before ≡ at (2 ^ 64 - 1) → pooled (b 16 8 15 7).state ≡ true → (b 16 8 15 6).state ≡ Runnable
+      → latest before ≡ Some (2 ^ 64 - 1) → pooled (b 16 8 15 7).state ≡ true → (b 16 8 15 6).state ≡ Runnable
       → S 16 8 r 15 7 * 256 ≤ S 16 8 r 15 6 * (2 ^ 32 - 1) + bound * 256
 
   lags : (g r : ℕ) → r ≤ 2 ^ 64 - 1 + g → PoolList (largest 16 8 1) g cs → Lags r (1 + g - 1)
@@ -72,7 +73,7 @@ module _ (cs before rest : List Call) (typed : AllTyped cs) (split : cs ≡ befo
   lag-at-last = lags (2 ^ 64 - 1) (2 ^ 65 - 2) (omega arith)
 
   -- ---- a policy of 2 × 3: 15/7 is in the pool and 14/6, of another domain, waits. Both are outside it and weigh 256
-  pub lag-outside : PoolList (largest 2 3 1) (2 ^ 64 - 1) cs → latest before ≡ at (2 ^ 64 - 1)
+  pub lag-outside : PoolList (largest 2 3 1) (2 ^ 64 - 1) cs → latest before ≡ Some (2 ^ 64 - 1)
       → pooled (b 2 3 15 7).state ≡ true → (b 2 3 14 6).state ≡ Runnable
       → S 2 3 0 15 7 * 256 ≤ S 2 3 0 14 6 * 256 + (2 ^ 64 - 1) * 256
   lag-outside pool =

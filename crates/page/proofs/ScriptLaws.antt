@@ -1,4 +1,5 @@
 -- A record, what a script does of it, and the text of any script are the page's, for any bytes. Assumes nothing.
+use Rattle.std.specs.Prelude.{None}
 use Prim.Native.Nat.{ℕ, zero, suc, ◌+◌, ◌*◌}
 use mathlib.Core.Bool.{Bool, true, false, cond, ◌&&◌}
 use mathlib.Core.List.{List, [], ◌++◌}
@@ -10,7 +11,6 @@ use lib.Seq.{sets}
 use Rattle.host.specs.declared.Host.{Host}
 use Rattle.host.specs.Step as host
 use Rattle.host.specs.Outcomes.{HostOutcome}
-use Rattle.records.specs.declared.MaybeCall.{MaybeCall}
 use Rattle.records.specs.declared.Plan.{Plan}
 use Rattle.records.specs.declared.Record.{Record}
 use Rattle.records.specs.Records as records
@@ -63,7 +63,7 @@ plan-is b bs =
     ap (λ (x : Record). cond (ltb (length bs) 20) (Plan.Refuse BadScript) (planned b x)) (record_of-is bs)
     ∙ ap
     (λ (p : Plan). cond (ltb (length bs) 20) (Plan.Refuse BadScript) (cond (eqb r.kind 0) (records.build_of r) p))
-    (sym (get_or-map (after_build b) (calls_of r) r.kind MaybeCall.None))
+    (sym (get_or-map (after_build b) (calls_of r) r.kind None))
 
 abbrev of-plan : Host → Bool → Plan → Played
 of-plan h b p =
@@ -136,16 +136,20 @@ taken_is : (shown : Bool) (bs out : List ℕ) → script.taken shown bs out ≡ 
 taken_is true bs out = refl
 taken_is false bs out = refl
 
--- what `replay` hands back, and what it leaves of the bytes that it writes over
-pub replayed-is : (shown : Bool) (c : Script) (bs before : List ℕ) (r : Taken) (out : List ℕ)
-    → Replayed shown c bs (script.taken shown bs before) before r out
-    → (r ≡ page.replayed shown c bs before) × (out ≡ page.replayed_out shown c bs before)
-replayed-is shown c bs before r out h =
+-- what `replay` hands back, and what it leaves of the script and of the bytes that it writes over
+pub record ReplayedOnPage (shown : Bool) (c : Script) (bs before : List ℕ) (after : Script) (r : Taken) (out : List ℕ) : Type 0 where
+  pub script : after ≡ page.replayed_script shown c bs before
+  pub handed_back : r ≡ page.replayed shown c bs before
+  pub bytes_after : out ≡ page.replayed_out shown c bs before
+
+pub replayed-is : (shown : Bool) (c : Script) (bs before : List ℕ) (after : Script) (r : Taken) (out : List ℕ)
+    → Replayed shown c bs (script.taken shown bs before) before after r out → ReplayedOnPage shown c bs before after r out
+replayed-is shown c bs before after r out h =
     let n = page.taken shown bs before in
     let same : script.text shown c bs (script.taken shown bs before) ≡ page.text shown c bs n =
     ap (script.text shown c bs) (taken_is shown bs before) ∙ text-is shown c bs n in
-    let a : r.script ≡ page.after c bs n =
+    let a : after ≡ page.after c bs n =
     h.script ∙ (ap (script.script_after c bs) (taken_is shown bs before) ∙ after_is c bs n) in
     let b : r.records ≡ n = h.records ∙ taken_is shown bs before in
     let w : r.written ≡ length (page.text shown c bs n) = h.placed.past ∙ (zero-add _ ∙ ap length same) in
-    (λ i. record { script = a i; records = b i; written = w i }, h.placed.bytes ∙ ap (put before 0) same)
+    record { script = a; handed_back = λ i. record { records = b i; written = w i }; bytes_after = h.placed.bytes ∙ ap (put before 0) same }

@@ -12,10 +12,11 @@ use Rattle.system.specs.Slots as slots
 use Rattle.system.specs.Slots.{slot_of}
 use Rattle.system.specs.Records as records
 use Rattle.system.specs.Reads.{vcpu_at, occupant_at}
+use Rattle.policy.specs.declared.Account.{Account}
 use Rattle.policy.specs.declared.Scheduler.{Scheduler}
 use Rattle.policy.specs.Accounts as accounts
 use Rattle.policy.specs.Accounts.{account_at, account_of}
-use Rattle.policy.specs.Standing.{service_by, service_at, deserves}
+use Rattle.policy.specs.Standing.{service_of, service_by, service_at, deserves}
 use Rattle.page.specs.Page.{vcpu, holder, account, weight, number, four, hold, in_flight, service, deserving}
 use Rattle.page.specs.Page as page
 
@@ -66,6 +67,12 @@ flight-is x now = go x.state
     go Runnable = refl
     go (Running p) = refl
     go Blocked = refl
+
+-- by two records
+pub service-by-is : (x : VirtualCpu) (a : Account) (now : ℕ)
+    → held (service_of x a now) ≡ four (hold (x.runtime + in_flight x.state (now - x.dispatched_at) + number a.offset))
+service-by-is x a now =
+    four_is _ ∙ ap₂ (λ (n m : ℕ). four (hold (x.runtime + n + m))) (flight-is x now) (number_is a.offset)
 
 pub service-is : (s : System) (π : Scheduler) (now i : ℕ) → service_at s π now i ≡ service s π now (i / 8) (i % 8)
 unfolding service_by account_of account_at

@@ -1,4 +1,5 @@
 -- Dated moves by ids tell what they tell by slots: who holds a pCPU since when, and the clocks. Assumes nothing.
+use Rattle.std.specs.Prelude.{Some}
 use Prim.Native.Nat.{ℕ, ◌/◌, ◌%◌}
 use mathlib.Core.Bool.{Bool, true, false, cond}
 use mathlib.Core.List.{List, [], ◌∷◌, map}
@@ -12,7 +13,6 @@ use Rattle.demand3.specs.Lists as lists
 use Rattle.demand3.specs.Holding as holding
 use Rattle.demand3.specs.Holding.{Hold, free, by, hold_by, hold_after, leaves}
 use Rattle.page.specs.Book as book
-use Rattle.page.specs.Lists.{at}
 use Rattle.page.specs.DatedMoves as page
 use Rattle.page.proofs.Loops.{who}
 use Rattle.page.proofs.ByIds.{booked, moved, dated, line_at}
@@ -60,4 +60,4 @@ turns (holding.elsewhere {m} n r) =
 pub all-at : (t : lists.Clock) (ms : List Dated) → holding.AllAt t ms → page.AllAt (clocked t) (map dated ms)
 all-at t [] a = a
 all-at t (m ∷ ms) a =
-    (ap clocked a.0 ∙ ap at (sym (date_is m.direction m.slot m.pcpu m.clock)), all-at t ms a.1)
+    (ap clocked a.0 ∙ ap Some (sym (date_is m.direction m.slot m.pcpu m.clock)), all-at t ms a.1)

@@ -1,4 +1,5 @@
 -- What is accepted as a usage file is what the page accepts, for any bytes. Assumes nothing.
+use Rattle.std.specs.Prelude.{None, Some}
 use Prim.Native.Nat.{ℕ, zero, suc, ◌+◌, ◌*◌, ◌<◌}
 use mathlib.Core.Bool.{Bool, true, false, cond, ◌&&◌, and_assoc}
 use mathlib.Core.List.{List}
@@ -12,6 +13,7 @@ use borrow.Author.Tests.{leb-false, ne_eqb}
 use Rattle.big_endian.specs.Numbers.{number}
 use Rattle.usage_layout.specs.Layout as layout
 use Rattle.usage_layout.specs.Reading as reading
+use Rattle.usage_parse.specs.Domains.{count_in}
 use Rattle.page.specs.Page.{times}
 use Rattle.page.specs.Numbers.{all, field}
 use Rattle.page.specs.UsageFile as page
@@ -118,6 +120,6 @@ module _ (s : List ℕ) where
       (ap (λ (n : ℕ). reading.shaped s n (reading.vcpus_each s)) (field_is s 4 2)
       ∙ (shaped-is (page.domains_in s) (reading.vcpus_each s) ∙ each-is (page.domains_in s)))
 
-  pub count-is : reading.count_of s ≡ page.count s
-  unfolding reading.count_of
-  count-is = ap₂ (λ (b : Bool) (n : ℕ). cond b n 17) accepted-is (field_is s 4 2)
+  pub count-is : count_in s ≡ page.count s
+  unfolding count_in
+  count-is = ap₂ (λ (b : Bool) (n : ℕ). cond b (Some n) None) accepted-is (field_is s 4 2)

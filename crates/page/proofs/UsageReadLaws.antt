@@ -1,4 +1,5 @@
 -- What a reader tells of a domain, and the body that it gives, are the page's, for any bytes. Assumes nothing.
+use Rattle.std.specs.Prelude.{Option, None, Some}
 use Prim.Native.Nat.{ℕ, ◌+◌, ◌*◌}
 use mathlib.Core.Bool.{Bool, true, false, cond, ◌&&◌}
 use mathlib.Core.List.{List, []}
@@ -77,10 +78,11 @@ pub place_is : (s : Bor (List ℕ)) (d : ℕ) → domains.place_of s d ≡ page.
 place_is s d = ap (page.further s.ref_ptr) (body-start-is s.now d)
 
 -- ---- by a count that is kept beside the bytes, of any count
-pub told-by-is : (n d : ℕ) → answers.told (domains.answer_at n d) ≡ page.told_by n d
-told-by-is n d = told_are (leb n 16) (ltb d n)
+pub told-by-is : (n : Option ℕ) (d : ℕ) → answers.told (domains.answer_at n d) ≡ page.told_by n d
+told-by-is None d = refl
+told-by-is (Some n) d = told_are (leb n 16) (ltb d n)
 
-module _ (s : List ℕ) (n d : ℕ) where
+module _ (s : List ℕ) (count : Option ℕ) (d : ℕ) where
   offset-is : reading.offset_in s d ≡ field s (6 + 6 * d) 4
   offset-is = number_at s (6 + d * 6) (6 + 6 * d) 4 (omega arith)
 
@@ -90,20 +92,21 @@ module _ (s : List ℕ) (n d : ℕ) where
   length-is : reading.vcpus_in s d * 20 ≡ 20 * field s (10 + 6 * d) 2
   length-is = omega (arith, vcpus_are)
 
-  names-is : domains.names_body s n d ≡ page.names s n d
-  names-is =
+  names-is : (n : Option ℕ) → domains.names_body s n d ≡ page.names s n d
+  names-is None = refl
+  names-is (Some n) =
       let e : 12 + d * 6 ≡ 12 + 6 * d = omega arith in
       let q : reading.offset_in s d + reading.vcpus_in s d * 20 ≡ field s (6 + 6 * d) 4 + 20 * field s (10 + 6 * d) 2 =
       omega (arith, offset-is, length-is) in
       ap₂ (λ (a b : ℕ). leb n 16 && (ltb d n && (leb a (length s) && leb b (length s)))) e q
 
-  pub body-by-is : domains.stretch_at s n d ≡ page.body_by s n d
+  pub body-by-is : domains.stretch_at s count d ≡ page.body_by s count d
   body-by-is =
-      ap₂ (λ (b : Bool) (l : List ℕ). cond b l []) names-is (ap₂ (λ (k m : ℕ). take k (drop m s)) length-is offset-is)
+      ap₂ (λ (b : Bool) (l : List ℕ). cond b l []) (names-is count) (ap₂ (λ (k m : ℕ). take k (drop m s)) length-is offset-is)
 
-  start-by-is : domains.start_at s n d ≡ page.start_by s n d
-  start-by-is = ap₂ (λ (b : Bool) (m : ℕ). cond b m 0) names-is offset-is
+  start-by-is : domains.start_at s count d ≡ page.start_by s count d
+  start-by-is = ap₂ (λ (b : Bool) (m : ℕ). cond b m 0) (names-is count) offset-is
 
-pub place-by-is : (s : Bor (List ℕ)) (n d : ℕ) → domains.place_at s n d
-    ≡ page.further s.ref_ptr (page.start_by s.now n d)
-place-by-is s n d = ap (page.further s.ref_ptr) (start-by-is s.now n d)
+pub place-by-is : (s : Bor (List ℕ)) (count : Option ℕ) (d : ℕ) → domains.place_at s count d
+    ≡ page.further s.ref_ptr (page.start_by s.now count d)
+place-by-is s count d = ap (page.further s.ref_ptr) (start-by-is s.now count d)

@@ -1,4 +1,5 @@
 -- A vCPU's weight and service in a file, and a domain's lines, are the page's, for any bytes. Assumes nothing.
+use Rattle.std.specs.Prelude.{Option}
 use Prim.Native.Nat.{ℕ, ◌+◌, ◌*◌, ◌/◌, ◌≤◌, min}
 use mathlib.Core.Bool.{Bool, true, false, cond, ◌&&◌}
 use mathlib.Core.List.{List, []}
@@ -6,7 +7,7 @@ use mathlib.Core.Path.{◌≡◌, refl, sym, ◌∙◌, ap, ap₂}
 use native.Mathlib.Nat.{add-zero}
 use native.Mathlib.Omega.{arith}
 use lib.Dec.{ltb}
-use lib.ListN.{length, take, drop, replicate, length-drop}
+use lib.ListN.{length, take, drop, length-drop}
 use lib.Seq.{length-take-le}
 use borrow.Author.Tests.{lt-ltb, le-ltb, ltb-true}
 use Rattle.scans.specs.Booleans.{both}
@@ -14,16 +15,16 @@ use Rattle.big_endian.specs.Laws.{number-within}
 use Rattle.usage_layout.specs.Reading as reading
 use Rattle.usage_layout.proofs.Laws.{accepted-parts}
 use Rattle.usage_parse.specs.Domains as domains
-use Rattle.usage_text.specs.declared.BodyText.{BodyText}
 use Rattle.usage_text.specs.BodyText as usage
+use Rattle.usage_text.specs.FileText as files
 use Rattle.page.specs.Page.{times}
 use Rattle.page.specs.Numbers.{parts, field}
-use Rattle.page.specs.Lines.{usage_line, put}
+use Rattle.page.specs.Lines.{usage_line}
 use Rattle.page.specs.UsageFile as page
 use Rattle.page.proofs.NumberLaws.{parts_are, parts_same, field_is}
 use Rattle.page.proofs.LineLaws.{usage-line-is}
 use Rattle.page.proofs.UsageAccepted.{number_at}
-use Rattle.page.proofs.UsageReadLaws.{has-is, line-is, body_is}
+use Rattle.page.proofs.UsageReadLaws.{has-is, line-is, body_is, body-by-is}
 
 -- ---- of any body
 pub vcpus-of-body-is : (b : List ℕ) → domains.vcpus_of b ≡ page.vcpus_of_body b
@@ -37,18 +38,12 @@ pub service-of-body-is : (b : List ℕ) (v : ℕ) → domains.service_at b v ≡
 service-of-body-is b v =
     ap (λ (n : ℕ). cond (ltb v (length b / 20)) n 0) (number_at b (v * 20 + 4) (20 * v + 4) 16 (omega arith))
 
-body-lines_are : (d : ℕ) (b : List ℕ) → usage.body_lines d b ≡ page.body_text d b
+pub body-text-is : (d : ℕ) (b : List ℕ) → usage.body_lines d b ≡ page.body_text d b
 unfolding usage.body_lines usage.vcpu_line
-body-lines_are d b =
+body-text-is d b =
     parts_are (min (length b / 20) 8) _ _
     (λ v _. usage-line-is d v (domains.weight_at b v) (domains.service_at b v)
     ∙ ap₂ (usage_line d v) (weight-of-body-is b v) (service-of-body-is b v))
-
-pub body-text-is : (d : ℕ) (b : List ℕ) → usage.body_text_of (usage.body_lines d b) ≡ page.body_text_of d b
-body-text-is d b = ap text (body-lines_are d b)
-  where
-    text : List ℕ → BodyText
-    text t = record { bytes = put (replicate 824 0) 0 t; length = length t }
 
 -- ---- of a file's domain
 module _ (s : List ℕ) (d : ℕ) where
@@ -125,7 +120,7 @@ module _ (s : List ℕ) (d : ℕ) where
   pub domain-text-is : usage.body_lines d (domains.stretch_of s d) ≡ page.domain_text s d
   unfolding times
   domain-text-is =
-      body-lines_are d (domains.stretch_of s d)
+      body-text-is d (domains.stretch_of s d)
       ∙ (ap (page.body_text d) (body_is s d)
       ∙ ((λ i. parts (min (length (page.body s d) / 20) 8) (λ v. usage_line d v (weight-there v i) (service-there v i)))
       ∙ go (page.has s d) refl))
@@ -140,3 +135,14 @@ module _ (s : List ℕ) (d : ℕ) where
           ap (λ (m : ℕ). parts m (λ v. usage_line d v (cond (ltb v k) (page.weight_in s d v) 0) (cond (ltb v k) (page.service_in s d v) 0))) n
           ∙ parts_same k _ _
           (λ v l. ap (λ (t : Bool). usage_line d v (cond t (page.weight_in s d v) 0) (cond t (page.service_in s d v) 0)) (lt-ltb v k l))
+
+-- the lines of the first domains of a file: told of the file, or by a count that is kept beside it
+pub file-text-is : (s : List ℕ) (n : ℕ) → files.lines_of s n ≡ page.file_text s n
+unfolding files.lines_of
+file-text-is s n = parts_are (min n 16) _ _ (λ d _. domain-text-is s d)
+
+pub text-by-is : (s : List ℕ) (count : Option ℕ) (n : ℕ) → files.file_lines s count n ≡ page.text_by s count n
+unfolding files.file_lines
+text-by-is s count n =
+    parts_are (min n 16) _ _
+    (λ d _. body-text-is d (domains.stretch_at s count d) ∙ ap (page.body_text d) (body-by-is s count d))

@@ -1,6 +1,6 @@
 -- What the dated moves of a list of calls tell, beside demand 3: who holds a pCPU since when, the pCPU that a vCPU was last on, and
 -- that no run time is cut where clocks do not run back. It is proved as `every_list_tells`.
-use Rattle.std.specs.Prelude.{ℕ, ◌+◌, ◌-◌, ◌^◌, ◌≤◌, ◌<◌, cond, ◌&&◌, List, [], ◌∷◌, ◌≡◌, eqb}
+use Rattle.std.specs.Prelude.{ℕ, ◌+◌, ◌-◌, ◌^◌, ◌≤◌, ◌<◌, cond, ◌&&◌, List, [], ◌∷◌, ◌≡◌, eqb, Option, None, Some}
 use Rattle.system.specs.declared.RunState.{RunState}
 use Rattle.system.specs.declared.RunState.TheVariants.{Offline, Runnable, Running, Blocked}
 use Rattle.system.specs.declared.VirtualCpu.{VirtualCpu}
@@ -11,7 +11,7 @@ use Rattle.page.specs.Host.{Found, nobody, one, vcpu}
 use Rattle.page.specs.Steps.{step}
 use Rattle.page.specs.Book.{Shape, Book, Dated, onto, off, blank, holder, comes_off}
 use Rattle.page.specs.Book as book
-use Rattle.page.specs.Lists.{Fresh, Sized, Clock, none, at, host, entry, host_after, book_after, moves_after}
+use Rattle.page.specs.Lists.{Fresh, Sized, host, entry, host_after, book_after, moves_after}
 
 -- ---- Who holds a pCPU: nobody, or d/v since a clock
 pub data Hold : Type 0 where
@@ -44,29 +44,29 @@ pub data Turns (p : ℕ) : Hold → List Dated → Hold → Type 0 where
   elsewhere : {m : Dated} {ms : List Dated} {g h : Hold} → (pcpu_of m ≡ p → ⊥) → Turns p g ms h → Turns p g (m ∷ ms) h
 
 -- the clock that a call carries
-abbrev pub request_clock : Request → Clock
-request_clock Request.Admit = none
-request_clock (Request.Run p now) = at now
-request_clock (Request.Preempt now) = at now
-request_clock (Request.Block now) = at now
-request_clock Request.Wake = none
-request_clock (Request.SetAffinity m) = none
-request_clock (Request.Offline now) = at now
+abbrev pub request_clock : Request → Option ℕ
+request_clock Request.Admit = None
+request_clock (Request.Run p now) = Some now
+request_clock (Request.Preempt now) = Some now
+request_clock (Request.Block now) = Some now
+request_clock Request.Wake = None
+request_clock (Request.SetAffinity m) = None
+request_clock (Request.Offline now) = Some now
 
-abbrev pub clock_of : Call → Clock
+abbrev pub clock_of : Call → Option ℕ
 clock_of (Call.Ask d v q) = request_clock q
-clock_of (Call.OfflineAll d now) = at now
-clock_of (Call.Advance now) = at now
-clock_of (Call.SetWeight d v w) = none
-clock_of (Call.SetWakeBoost on) = none
+clock_of (Call.OfflineAll d now) = Some now
+clock_of (Call.Advance now) = Some now
+clock_of (Call.SetWeight d v w) = None
+clock_of (Call.SetWakeBoost on) = None
 
 abbrev pub date_of : Dated → ℕ
 date_of (onto d v p now) = now
 date_of (off d v p now) = now
 
-abbrev pub AllAt : Clock → List Dated → Type 0
+abbrev pub AllAt : Option ℕ → List Dated → Type 0
 AllAt t [] = Unit {0}
-AllAt t (m ∷ ms) = (t ≡ at (date_of m)) × AllAt t ms
+AllAt t (m ∷ ms) = (t ≡ Some (date_of m)) × AllAt t ms
 
 -- at the end of a list: the host, its book, and the dated moves until then
 pub record MovesTell (k : Shape) (h : Host) (b : Book) (ms : List Dated) : Type 0 where
@@ -108,9 +108,9 @@ last_after f cs d v = last_from f.shape (host f) (blank f.shape) d v 64 cs
 -- clock
 pub data Forward : Host → ℕ → List Call → ℕ → Type 0 where
   done : {h : Host} {c : ℕ} → Forward h c [] c
-  timed : {h : Host} {c n c' : ℕ} {x : Call} {cs : List Call} → (step h x).number ≡ 0 → clock_of x ≡ at n → c ≤ n
+  timed : {h : Host} {c n c' : ℕ} {x : Call} {cs : List Call} → (step h x).number ≡ 0 → clock_of x ≡ Some n → c ≤ n
       → Forward (step h x).host n cs c' → Forward h c (x ∷ cs) c'
-  untimed : {h : Host} {c c' : ℕ} {x : Call} {cs : List Call} → clock_of x ≡ none → Forward (step h x).host c cs c'
+  untimed : {h : Host} {c c' : ℕ} {x : Call} {cs : List Call} → clock_of x ≡ None → Forward (step h x).host c cs c'
       → Forward h c (x ∷ cs) c'
   refused : {h : Host} {c c' : ℕ} {x : Call} {cs : List Call} → ((step h x).number ≡ 0 → ⊥) → Forward (step h x).host c cs c'
       → Forward h c (x ∷ cs) c'

@@ -1,14 +1,10 @@
 -- Demand 3: what holds at every point of every list of calls of a fresh host, whatever the clocks do. It is proved as `demand_3`.
-use Rattle.std.specs.Prelude.{ℕ, ◌+◌, ◌-◌, ◌*◌, ◌^◌, ◌≤◌, ◌<◌, Bool, true, false, cond, ◌&&◌, List, [], ◌∷◌, ◌++◌, ◌≡◌, ltb, eqb, length}
+use Rattle.std.specs.Prelude.{ℕ, ◌+◌, ◌-◌, ◌*◌, ◌^◌, ◌≤◌, ◌<◌, Bool, true, false, cond, ◌&&◌, List, [], ◌∷◌, ◌++◌, ◌≡◌, ltb, eqb, length, None, Some}
 use Rattle.system.specs.declared.RunState.TheVariants.{Runnable, Running}
 use Rattle.system.specs.declared.VirtualCpu.{VirtualCpu}
 use Rattle.system.specs.declared.Occupant.{Occupant}
 use Rattle.system.specs.declared.Occupant.TheVariants.{Idle, Vcpu}
 use Rattle.system.specs.declared.System.{System}
-use Rattle.system.specs.declared.MaybeVcpu.{MaybeVcpu}
-use Rattle.system.specs.declared.MaybeState.{MaybeState}
-use Rattle.system.specs.declared.MaybeU64.{MaybeU64}
-use Rattle.verdict.specs.declared.Violation.TheVariants.{None}
 use Rattle.advance.specs.declared.Decision.{Decision}
 use Rattle.advance.specs.declared.Decision.TheVariants as decision
 use Rattle.calls.specs.declared.Call.{Call}
@@ -22,7 +18,6 @@ use Rattle.page.specs.Verdict.{first_violation}
 use Rattle.page.specs.Steps.{step}
 use Rattle.page.specs.Reads as reads
 use Rattle.page.specs.Book.{Shape, Line, Book, holder, full}
-use Rattle.page.specs.Lists as lists
 use Rattle.page.specs.Lists.{Fresh, Sized, AllTyped, entry, host_after, book_after, service_of, weight_after, PoolList, latest}
 
 -- ---- The system agrees with the book: every read answers what the book says, for ids of any size
@@ -44,14 +39,14 @@ pub record Says (l : Line) (x : VirtualCpu) : Type 0 where
 pub record Agrees (k : Shape) (b : Book) (s : System) : Type 0 where
   -- states, run times, masks, and the clock of each Running vCPU: in its record, and as each is read
   pub lines : (d v : ℕ) → d < k.domains → v < k.vcpus → Says (b d v) (vcpu s d v)
-  pub records : (d v : ℕ) → reads.vcpu_of s d v ≡ cond (has k d v) (MaybeVcpu.Some (vcpu s d v)) MaybeVcpu.None
-  pub states : (d v : ℕ) → reads.state_of s d v ≡ cond (has k d v) (MaybeState.Some (b d v).state) MaybeState.None
+  pub records : (d v : ℕ) → reads.vcpu_of s d v ≡ cond (has k d v) (Some (vcpu s d v)) None
+  pub states : (d v : ℕ) → reads.state_of s d v ≡ cond (has k d v) (Some (b d v).state) None
   pub running : (d v : ℕ) → reads.is_running s d v ≡ (has k d v && reads.running (b d v).state)
-  pub run-times : (d v : ℕ) → reads.runtime s d v ≡ cond (has k d v) (MaybeU64.Some (b d v).time) MaybeU64.None
-  pub masks : (d v : ℕ) → reads.affinity_of s d v ≡ cond (has k d v) (MaybeU64.Some (b d v).mask) MaybeU64.None
+  pub run-times : (d v : ℕ) → reads.runtime s d v ≡ cond (has k d v) (Some (b d v).time) None
+  pub masks : (d v : ℕ) → reads.affinity_of s d v ≡ cond (has k d v) (Some (b d v).mask) None
   pub permits : (d v p : ℕ) → reads.affinity_permits s d v p ≡ (has k d v && admits (b d v).mask p)
   pub clocks : (d v : ℕ)
-      → reads.on_cpu_since s d v ≡ cond (has k d v && reads.running (b d v).state) (MaybeU64.Some (b d v).clock) MaybeU64.None
+      → reads.on_cpu_since s d v ≡ cond (has k d v && reads.running (b d v).state) (Some (b d v).clock) None
   -- what a domain used up to a reading: the services of its vCPUs there
   pub used : (d r : ℕ) → reads.usage s d r ≡ times (λ v n. n + service_of b r d v) (cond (ltb d k.domains) k.vcpus 0) 0
   -- who holds each pCPU, and how many are held
@@ -95,7 +90,7 @@ pub record Pools (f : Fresh) (g : ℕ) (cs : List Call) : Type 0 where
       service h.system h.scheduler r d v ≡ service_of (book_after f cs) r d v
   -- S_i · w_j ≤ S_j · w_i + (Q + G − 1) · w_j for i in the pool, which is d/v, and j waiting, which is e/u, at every reading up to G
   -- after the latest advance
-  pub lag : 1 ≤ f.slice → (t r : ℕ) → latest cs ≡ lists.at t → r ≤ t + g
+  pub lag : 1 ≤ f.slice → (t r : ℕ) → latest cs ≡ Some t → r ≤ t + g
       → (d v e u : ℕ) → d < f.shape.domains → v < f.shape.vcpus → e < f.shape.domains → u < f.shape.vcpus
       → let b = book_after f cs in
       pooled (b d v).state ≡ true → (b e u).state ≡ Runnable

@@ -34,6 +34,7 @@ abbrev pub each : {A : Type 0} → System → (ℕ → ℕ → A → A) → A �
 each s f = times (λ d. times (f d) (vcpus s)) (domains s)
 
 -- ---- The best of a scan: of those that pass, one gives way only to a strictly better one
+-- No Option of a pair: `nobody` and `one d v` say what None and a pair would not.
 pub data Found : Type 0 where
   nobody : Found
   one : ℕ → ℕ → Found

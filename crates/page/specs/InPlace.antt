@@ -39,12 +39,16 @@ vcpu_at s j = get_or s.vcpus j (vc Offline 0 0 0 0)
 abbrev pub pcpu_at : System → ℕ → PhysicalCpu
 pcpu_at s p = get_or s.pcpus p (record { occupant = Idle })
 
--- of s: whether it is sound, its counts, and the two records that a request of d/v reads
-pub record Read (s : System) (d v : ℕ) (q : Request) (f : Frame) (x : VirtualCpu) (c : PhysicalCpu) : Type 0 where
+-- of s: whether it is sound, and its counts
+pub record FrameOf (s : System) (f : Frame) : Type 0 where
   pub sound : f.sound ≡ sound s
   pub domains : f.domain_count ≡ s.domain_count
   pub vcpus : f.vcpus_per_domain ≡ s.vcpus_per_domain
   pub pcpus : f.pcpu_count ≡ s.pcpu_count
+
+-- these, and the two records that a request of d/v reads
+pub record Read (s : System) (d v : ℕ) (q : Request) (f : Frame) (x : VirtualCpu) (c : PhysicalCpu) : Type 0 where
+  pub frame : FrameOf s f
   pub vcpu : x ≡ vcpu_at s (slot_read d v)
   pub pcpu : c ≡ pcpu_at s (pcpu_read q x)
 

@@ -1,6 +1,5 @@
 -- Lines of numbers, and text put into a stretch of bytes.
-use Rattle.std.specs.Prelude.{ℕ, ◌+◌, Bool, cond, ◌&&◌, List, [], ◌∷◌, ◌++◌, leb, length, take, drop, replicate}
-use Rattle.text.specs.declared.Line.{Line}
+use Rattle.std.specs.Prelude.{ℕ, ◌+◌, Bool, cond, List, [], ◌∷◌, ◌++◌, leb, length, take, drop}
 use Rattle.page.specs.Numbers.{decimal, wide_decimal}
 
 -- ---- Lines: 32 is a space, 112 a p, 10 ends a line
@@ -28,19 +27,15 @@ usage_line d v weight service = decimal d ++ spaced v ++ spaced weight ++ (32 �
 abbrev pub put : List ℕ → ℕ → List ℕ → List ℕ
 put out at t = take at out ++ (t ++ drop (at + length t) out)
 
--- a line of that text, zeros past it
-abbrev pub line_of : List ℕ → Line
-line_of t = record { bytes = put (replicate 192 0) 0 t; length = length t }
-
 -- a whole line is put where it fits, and the index past it
-abbrev pub fits : List ℕ → ℕ → Line → Bool
-fits out at l = leb l.length 192 && leb (at + l.length) (length out)
+abbrev pub fits : List ℕ → ℕ → List ℕ → Bool
+fits out at t = leb (at + length t) (length out)
 
-abbrev pub append : List ℕ → ℕ → Line → List ℕ
-append out at l = cond (fits out at l) (put out at (take l.length l.bytes)) out
+abbrev pub append : List ℕ → ℕ → List ℕ → List ℕ
+append out at t = cond (fits out at t) (put out at t) out
 
-abbrev pub past : List ℕ → ℕ → Line → ℕ
-past out at l = cond (fits out at l) (at + l.length) at
+abbrev pub past : List ℕ → ℕ → List ℕ → ℕ
+past out at t = cond (fits out at t) (at + length t) at
 
 -- what a record is told is put where there are 63 bytes, which is room for any such line
 abbrev pub put_answer : List ℕ → ℕ → ℕ → ℕ → ℕ → List ℕ

@@ -1,5 +1,6 @@
 -- Lists of calls of a fresh host: the book along them, the weights that they leave, and those that form a pool.
-use Rattle.std.specs.Prelude.{ℕ, ◌+◌, ◌-◌, ◌%◌, ◌^◌, ◌≤◌, ◌<◌, max, min, Bool, cond, ◌&&◌, List, [], ◌∷◌, ◌++◌, ◌≡◌, ltb, eqb}
+use Rattle.std.specs.Prelude.{ℕ, ◌+◌, ◌-◌, ◌%◌, ◌^◌, ◌≤◌, ◌<◌, max, min, Bool, cond, ◌&&◌, List, [], ◌∷◌, ◌++◌, ◌≡◌, ltb, eqb, Option, None, Some}
+use Rattle.std.specs.Option.{option_or}
 use Rattle.host.specs.declared.Host.{Host}
 use Rattle.calls.specs.declared.Request.{Request}
 use Rattle.calls.specs.declared.Call.{Call}
@@ -135,21 +136,13 @@ abbrev pub PoolList : Fresh → ℕ → List Call → Type 0
 PoolList f g cs = PoolFrom f.shape g (host f) cs
 
 -- ---- The clock of the latest advance of a list, where it has one
-pub data Clock : Type 0 where
-  none : Clock
-  at : ℕ → Clock
+abbrev pub advance_clock : Call → Option ℕ
+advance_clock (Call.Advance now) = Some now
+advance_clock (Call.Ask d v q) = None
+advance_clock (Call.OfflineAll d now) = None
+advance_clock (Call.SetWeight d v w) = None
+advance_clock (Call.SetWakeBoost on) = None
 
-abbrev pub or_earlier : Clock → Clock → Clock
-or_earlier none e = e
-or_earlier (at t) e = at t
-
-abbrev pub advance_clock : Call → Clock
-advance_clock (Call.Advance now) = at now
-advance_clock (Call.Ask d v q) = none
-advance_clock (Call.OfflineAll d now) = none
-advance_clock (Call.SetWeight d v w) = none
-advance_clock (Call.SetWakeBoost on) = none
-
-unfoldable pub latest : List Call → Clock
-latest [] = none
-latest (c ∷ cs) = or_earlier (latest cs) (advance_clock c)
+unfoldable pub latest : List Call → Option ℕ
+latest [] = None
+latest (c ∷ cs) = option_or (latest cs) (advance_clock c)

@@ -1,5 +1,5 @@
 -- The test load of 2.7: a script drawn from a seed.
-use Rattle.std.specs.Prelude.{ℕ, ◌+◌, ◌-◌, ◌*◌, ◌/◌, ◌%◌, ◌^◌, suc, min, Bool, true, false, cond, ◌&&◌, List, [], ◌∷◌, leb, eqb, length, get_or}
+use Rattle.std.specs.Prelude.{ℕ, ◌+◌, ◌-◌, ◌*◌, ◌/◌, ◌%◌, ◌^◌, suc, min, Bool, true, false, cond, ◌&&◌, List, [], ◌∷◌, leb, eqb, length, get_or, Option, None, Some}
 use Rattle.std.specs.Int.Bits.{bit_xor}
 use Rattle.std.proofs.lemmas.List.Edits.{sets}
 use Rattle.records.specs.declared.Record.{Record}
@@ -7,9 +7,6 @@ use Rattle.records.specs.declared.Shape.{Shape}
 use Rattle.load_calls.specs.declared.Drawn.{Drawn}
 use Rattle.load_calls.specs.declared.Called.{Called}
 use Rattle.load_script.specs.declared.Load.{Load}
-use Rattle.load_script.specs.declared.Handed.{Handed}
-use Rattle.load_script.specs.declared.MaybeRecord.{MaybeRecord}
-use Rattle.load_script.specs.declared.Filled.{Filled}
 use Rattle.page.specs.Host.{times}
 use Rattle.page.specs.Numbers.{parts}
 use Rattle.page.specs.Script.{record_bytes}
@@ -129,10 +126,15 @@ rest l =
     })
     (record { build = l.build; generator = l.generator; clock = l.clock; built = true; left = l.left })
 
+-- what is handed out, if anything, and the load after it; one that is over stays as it is
+pub record Handed : Type 0 where
+  pub next : Option Record
+  pub load : Load
+
 abbrev pub handed : Load → Handed
 handed l =
-    cond (leb 1 (left l)) (record { next = MaybeRecord.Some (first l); load = rest l })
-    (record { next = MaybeRecord.None; load = l })
+    cond (leb 1 (left l)) (record { next = Some (first l); load = rest l })
+    (record { next = None; load = l })
 
 -- after n records, and their bytes
 unfoldable pub load_after : ℕ → Load → Load
@@ -144,6 +146,11 @@ stretch n l = parts n (λ k. record_bytes (first (load_after k l)))
 -- as many as there are and as there is room for
 abbrev pub fitting : Load → List ℕ → ℕ
 fitting l out = min (left l) (length out / 20)
+
+-- the load after them, and how many bytes they are
+pub record Filled : Type 0 where
+  pub load : Load
+  pub written : ℕ
 
 abbrev pub filled : Load → List ℕ → Filled
 filled l out = record { load = load_after (fitting l out) l; written = fitting l out * 20 }

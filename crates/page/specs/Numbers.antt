@@ -1,7 +1,5 @@
 -- Numbers in bytes, in decimal, and among arguments.
-use Rattle.std.specs.Prelude.{ℕ, ◌+◌, ◌-◌, ◌*◌, ◌/◌, ◌%◌, ◌^◌, Bool, true, cond, ◌&&◌, List, [], ◌∷◌, ◌++◌, ltb, leb, length, get_or}
-use Rattle.text.specs.declared.MaybeNumber.{MaybeNumber}
-use Rattle.text.specs.declared.MaybeNumber.TheVariants.{None, Some}
+use Rattle.std.specs.Prelude.{ℕ, ◌+◌, ◌-◌, ◌*◌, ◌/◌, ◌%◌, ◌^◌, Bool, true, cond, ◌&&◌, List, [], ◌∷◌, ◌++◌, ltb, leb, length, get_or, Option, None, Some}
 use Rattle.page.specs.Host.{times}
 
 -- part 0, then part 1, .. n of them, one right behind the other
@@ -42,6 +40,6 @@ is_digit b = leb 48 b && leb b 57
 abbrev pub said : List ℕ → ℕ
 said w = times (λ k n. n * 10 + (get_or w k 0 - 48)) (length w) 0
 
-unfoldable pub number_in : List ℕ → MaybeNumber
+unfoldable pub number_in : List ℕ → Option ℕ
 number_in w =
     cond (ltb 0 (length w) && all (length w) (λ k. is_digit (get_or w k 0)) && ltb (said w) (2 ^ 64)) (Some (said w)) None

@@ -8,7 +8,7 @@ unfoldable pub use Rattle.page.specs.Standing.{in_flight, service, deserving}
 unfoldable pub use Rattle.page.specs.Next.{admits, is_idle, fits, lowest, place, runnable, waits, placeable}
 unfoldable pub use Rattle.page.specs.Next.{somebody, beaten, loses_in, loses, pcpu_of, decided, next, limit}
 unfoldable pub use Rattle.page.specs.Accounting.{pooled, in_pool, was_in_pool, floor, lifted, renewed, accounted}
-unfoldable pub use Rattle.page.specs.Verdict.{names, vcpu_wrong, runs_on, pcpu_wrong, is_none, first}
+unfoldable pub use Rattle.page.specs.Verdict.{names, vcpu_wrong, runs_on, pcpu_wrong, first}
 unfoldable pub use Rattle.page.specs.Verdict.{first_violation, sound}
 unfoldable pub use Rattle.page.specs.Calls.{refused, done, test, put_vcpu, put_holder, vc, full, into, ran_for}
 unfoldable pub use Rattle.page.specs.Calls.{off, admitting, dispatching, preempting, blocking, waking}

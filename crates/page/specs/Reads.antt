@@ -1,16 +1,14 @@
 -- The reads of document 01, with 2.1 and 2.6 of document 02: never told 8; an id at or above its count, or its size, is absent.
-use Rattle.std.specs.Prelude.{ℕ, ◌+◌, ◌-◌, ◌^◌, Bool, true, false, cond, ◌&&◌, ltb}
+use Rattle.std.specs.Prelude.{ℕ, ◌+◌, ◌-◌, ◌^◌, Bool, true, false, cond, ◌&&◌, ltb, Option, None, Some}
 use Rattle.system.specs.declared.RunState.{RunState}
 use Rattle.system.specs.declared.RunState.TheVariants.{Offline, Runnable, Running, Blocked}
 use Rattle.system.specs.declared.Occupant.{Occupant}
 use Rattle.system.specs.declared.Occupant.TheVariants.{Idle}
 use Rattle.system.specs.declared.System.{System}
-use Rattle.system.specs.declared.MaybeVcpu.{MaybeVcpu}
-use Rattle.system.specs.declared.MaybeState.{MaybeState}
-use Rattle.system.specs.declared.MaybeU64.{MaybeU64}
 use Rattle.page.specs.Host.{domains, vcpus, pcpus, vcpu, holder, times}
 use Rattle.page.specs.Standing.{in_flight}
 use Rattle.page.specs.Next.{admits, is_idle}
+use Rattle.system.specs.declared.VirtualCpu.{VirtualCpu}
 
 abbrev pub there : System → ℕ → ℕ → Bool
 there s d v = ltb d (domains s) && ltb v (vcpus s)
@@ -18,11 +16,11 @@ there s d v = ltb d (domains s) && ltb v (vcpus s)
 abbrev pub vcpu_count : System → ℕ → ℕ
 vcpu_count s d = cond (ltb d (domains s)) (vcpus s) 0
 
-abbrev pub vcpu_of : System → ℕ → ℕ → MaybeVcpu
-vcpu_of s d v = cond (there s d v) (MaybeVcpu.Some (vcpu s d v)) MaybeVcpu.None
+abbrev pub vcpu_of : System → ℕ → ℕ → Option VirtualCpu
+vcpu_of s d v = cond (there s d v) (Some (vcpu s d v)) None
 
-abbrev pub state_of : System → ℕ → ℕ → MaybeState
-state_of s d v = cond (there s d v) (MaybeState.Some (vcpu s d v).state) MaybeState.None
+abbrev pub state_of : System → ℕ → ℕ → Option RunState
+state_of s d v = cond (there s d v) (Some (vcpu s d v).state) None
 
 abbrev pub running : RunState → Bool
 running (Running p) = true
@@ -33,18 +31,18 @@ running Blocked = false
 abbrev pub is_running : System → ℕ → ℕ → Bool
 is_running s d v = there s d v && running (vcpu s d v).state
 
-abbrev pub runtime : System → ℕ → ℕ → MaybeU64
-runtime s d v = cond (there s d v) (MaybeU64.Some (vcpu s d v).runtime) MaybeU64.None
+abbrev pub runtime : System → ℕ → ℕ → Option ℕ
+runtime s d v = cond (there s d v) (Some (vcpu s d v).runtime) None
 
 -- the clock of its dispatch, while Running
-abbrev pub on_cpu_since : System → ℕ → ℕ → MaybeU64
-on_cpu_since s d v = cond (is_running s d v) (MaybeU64.Some (vcpu s d v).dispatched_at) MaybeU64.None
+abbrev pub on_cpu_since : System → ℕ → ℕ → Option ℕ
+on_cpu_since s d v = cond (is_running s d v) (Some (vcpu s d v).dispatched_at) None
 
 abbrev pub occupant : System → ℕ → Occupant
 occupant s p = cond (ltb p (pcpus s)) (holder s p) Idle
 
-abbrev pub affinity_of : System → ℕ → ℕ → MaybeU64
-affinity_of s d v = cond (there s d v) (MaybeU64.Some (vcpu s d v).affinity) MaybeU64.None
+abbrev pub affinity_of : System → ℕ → ℕ → Option ℕ
+affinity_of s d v = cond (there s d v) (Some (vcpu s d v).affinity) None
 
 abbrev pub affinity_permits : System → ℕ → ℕ → ℕ → Bool
 affinity_permits s d v p = ltb p (pcpus s) && (there s d v && admits (vcpu s d v).affinity p)

@@ -122,7 +122,11 @@ taken shown bs out = min (records bs) (cond shown (length out / 28700) (length o
 
 abbrev pub replayed : Bool → Script → List ℕ → List ℕ → Taken
 replayed shown c bs out =
-    let n = taken shown bs out in record { script = after c bs n; records = n; written = length (text shown c bs n) }
+    let n = taken shown bs out in record { records = n; written = length (text shown c bs n) }
+
+-- the script that is left
+abbrev pub replayed_script : Bool → Script → List ℕ → List ℕ → Script
+replayed_script shown c bs out = after c bs (taken shown bs out)
 
 abbrev pub replayed_out : Bool → Script → List ℕ → List ℕ → List ℕ
 replayed_out shown c bs out = put out 0 (text shown c bs (taken shown bs out))

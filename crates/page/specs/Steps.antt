@@ -8,7 +8,7 @@ use Rattle.policy.specs.declared.Scheduler.{Scheduler}
 use Rattle.advance.specs.declared.Decision.{Decision}
 use Rattle.host.specs.declared.Host.{Host}
 use Rattle.calls.specs.declared.Call.{Call}
-use Rattle.host.specs.declared.Outcome as declared
+use Rattle.advance.specs.declared.Outcome.{Outcome}
 use Rattle.page.specs.Calls as calls
 use Rattle.page.specs.Policy.{set_weight, set_wake_boost}
 use Rattle.page.specs.Advance.{advance}
@@ -68,8 +68,8 @@ number_of BadFile = 13
 number_of NotInFile = 14
 number_of BadSeed = 15
 
--- r is what that step hands back
-pub record Hands (r : declared.Outcome) (e : Step) : Type 0 where
+-- r is what that step hands back, h the host that it leaves
+pub record Hands (r : Outcome) (h : Host) (e : Step) : Type 0 where
   pub number : number_of r.answer ≡ e.number
-  pub host : r.host ≡ e.host
+  pub host : h ≡ e.host
   pub count : r.count ≡ length e.moves

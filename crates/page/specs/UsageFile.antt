@@ -1,13 +1,12 @@
 -- The monthly usage file of 2.3: its layout, as it is written, as it is read, and its lines.
-use Rattle.std.specs.Prelude.{ℕ, ◌+◌, ◌-◌, ◌*◌, ◌/◌, min, Bool, cond, ◌&&◌, List, [], ◌∷◌, ◌++◌, ltb, leb, eqb, length, get_or, take, drop, replicate}
+use Rattle.std.specs.Prelude.{ℕ, ◌+◌, ◌-◌, ◌*◌, ◌/◌, min, Bool, false, cond, ◌&&◌, List, [], ◌∷◌, ◌++◌, ltb, leb, eqb, length, get_or, take, drop, Option, None, Some}
 use Rattle.system.specs.declared.System.{System}
 use Rattle.policy.specs.declared.Scheduler.{Scheduler}
-use Rattle.usage_text.specs.declared.BodyText.{BodyText}
 use Rattle.page.specs.Host.{domains, vcpus, vcpu}
 use Rattle.page.specs.Policy.{weight}
 use Rattle.page.specs.Standing.{in_flight}
 use Rattle.page.specs.Numbers.{parts, all, bytes, field}
-use Rattle.page.specs.Lines.{usage_line, put}
+use Rattle.page.specs.Lines.{usage_line}
 
 -- ---- The layout of n domains of k vCPUs
 abbrev pub usge : List ℕ
@@ -31,10 +30,6 @@ ran s now d v = let x = vcpu s d v in x.runtime + in_flight x.state (now - x.dis
 
 unfoldable pub file : System → Scheduler → ℕ → List ℕ
 file s π now = layout (domains s) (vcpus s) (weight π) (ran s now)
-
--- the array that is handed back: zero past the file's end
-abbrev pub written : System → Scheduler → ℕ → List ℕ
-written s π now = file s π now ++ replicate (2662 - length (file s π now)) 0
 
 -- ---- Read
 abbrev pub domains_in : List ℕ → ℕ
@@ -93,24 +88,30 @@ service_of f d v = cond (has f d && ltb v (vcpus_in f)) (service_in f d v) 0
 abbrev pub domain_text : List ℕ → ℕ → List ℕ
 domain_text f d = cond (has f d) (parts (vcpus_in f) (λ v. usage_line d v (weight_in f d v) (service_in f d v))) []
 
--- ---- The reader's parts, of any bytes. The count that it keeps of a file is 17 where it is not accepted.
-abbrev pub count : List ℕ → ℕ
-count f = cond (accepted f) (domains_in f) 17
+-- of the first n domains, of sixteen at most
+abbrev pub file_text : List ℕ → ℕ → List ℕ
+file_text f n = parts (min n 16) (domain_text f)
 
-abbrev pub told_by : ℕ → ℕ → ℕ
-told_by n d = cond (leb n 16) (cond (ltb d n) 0 14) 13
+-- ---- The reader's parts, of any bytes. It keeps the count of a file that is accepted, and none of another; a count above 16 is no file's.
+abbrev pub count : List ℕ → Option ℕ
+count f = cond (accepted f) (Some (domains_in f)) None
+
+abbrev pub told_by : Option ℕ → ℕ → ℕ
+told_by None d = 13
+told_by (Some n) d = cond (leb n 16) (cond (ltb d n) 0 14) 13
 
 -- from the table of contents: there is a line, and what it names
-abbrev pub names : List ℕ → ℕ → ℕ → Bool
-names f n d =
+abbrev pub names : List ℕ → Option ℕ → ℕ → Bool
+names f None d = false
+names f (Some n) d =
     leb n 16
     && (ltb d n && (leb (12 + 6 * d) (length f) && leb (field f (6 + 6 * d) 4 + 20 * field f (10 + 6 * d) 2) (length f)))
 
-abbrev pub body_by : List ℕ → ℕ → ℕ → List ℕ
-body_by f n d = cond (names f n d) (take (20 * field f (10 + 6 * d) 2) (drop (field f (6 + 6 * d) 4) f)) []
+abbrev pub body_by : List ℕ → Option ℕ → ℕ → List ℕ
+body_by f count d = cond (names f count d) (take (20 * field f (10 + 6 * d) 2) (drop (field f (6 + 6 * d) 4) f)) []
 
-abbrev pub start_by : List ℕ → ℕ → ℕ → ℕ
-start_by f n d = cond (names f n d) (field f (6 + 6 * d) 4) 0
+abbrev pub start_by : List ℕ → Option ℕ → ℕ → ℕ
+start_by f count d = cond (names f count d) (field f (6 + 6 * d) 4) 0
 
 -- of a body: its vCPUs, and what it says of one
 abbrev pub vcpus_of_body : List ℕ → ℕ
@@ -122,9 +123,10 @@ weight_of_body b v = cond (ltb v (vcpus_of_body b)) (field b (20 * v) 4) 0
 abbrev pub service_of_body : List ℕ → ℕ → ℕ
 service_of_body b v = cond (ltb v (vcpus_of_body b)) (field b (20 * v + 4) 16) 0
 
--- a line for each vCPU, of eight at most; zeros past them
+-- a line for each vCPU, of eight at most
 abbrev pub body_text : ℕ → List ℕ → List ℕ
 body_text d b = parts (min (vcpus_of_body b) 8) (λ v. usage_line d v (weight_of_body b v) (service_of_body b v))
 
-abbrev pub body_text_of : ℕ → List ℕ → BodyText
-body_text_of d b = record { bytes = put (replicate 824 0) 0 (body_text d b); length = length (body_text d b) }
+-- the lines of the first n domains, of sixteen at most
+abbrev pub text_by : List ℕ → Option ℕ → ℕ → List ℕ
+text_by f count n = parts (min n 16) (λ d. body_text d (body_by f count d))

@@ -4,7 +4,7 @@ use Rattle.std.specs.Prelude.{ℕ, ◌≤◌, Bool, List, ◌≡◌, length, tak
 use Rattle.script.specs.declared.Script.{Script}
 use Rattle.script.specs.Script.{script_after, taken}
 
--- the input as it stands then, the room for the text as it was, the script that is handed back
+-- the input as it stands then, the room for the text as it was, the script that is left
 pub record Stretched (states : Bool) (s : Script) (input room : List ℕ) (t : Script) : Type 0 where
   -- so many bytes came
   pub came : ℕ

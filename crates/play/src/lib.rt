@@ -6,39 +6,33 @@ ghost use Rattle.play.specs.Stretched.{Stretched};
 
 use script::Script;
 
-// A script under way, and whether there may be more of it.
+/// What is said where standard input cannot be read, and where standard output does not take it all.
 #[derive(Clone, Copy)]
-struct Turn {
-    script: Script,
-    more: bool,
+pub struct Words<'a> {
+    pub unread: &'a [u8],
+    pub untaken: &'a [u8],
 }
 
 // Reads as many bytes as `input` has, plays their records and writes the text. Where standard input cannot be read, or standard
-// output does not take it all, the words for it are said and there is no more.
+// output does not take it all, the words for it are said. Whether there may be more.
 fn stretch(
     rt: &HostRuntime,
-    s: Script,
+    script: &mut Script,
     input: &mut [u8],
     output: &mut [u8],
     states: bool,
-    unread: &[u8],
-    untaken: &[u8],
-) -> Turn
-    ensures { Stretched states s input.new output.old result.script }
+    words: Words<'_>,
+) -> bool
+    ensures { Stretched states script.old input.new output.old script.new }
 {
     let got = streams::read(rt, input);
-    let bytes = got.bytes;
-    let taken = script::replay(s, &input[..bytes], output, states);
-    let script = taken.script;
-    let written = taken.written;
-    let put = streams::put(rt, &output[..written], untaken);
-    if got.failed {
-        streams::say(rt, unread);
+    let taken = script.replay(&input[..got.bytes], output, states);
+    let put = streams::put(rt, &output[..taken.written], words.untaken);
+    let failed = got.error.is_some();
+    if failed {
+        streams::say(rt, words.unread);
     }
-    Turn {
-        script,
-        more: put & (bytes == input.len()) & !got.failed,
-    }
+    put && got.bytes == input.len() && !failed
 }
 
 /// Plays what standard input has, as many bytes at a time as `input` has, and writes the text, with the states where they are asked
@@ -48,18 +42,13 @@ pub fn to_end(
     input: &mut [u8],
     output: &mut [u8],
     states: bool,
-    unread: &[u8],
-    untaken: &[u8],
+    words: Words<'_>,
 ) {
-    let mut s = Script::new();
+    let mut script = Script::new();
     // a proved loop has to end, and nothing says that the input does
-    let mut turns = u64::MAX;
-    while turns > 0 {
-        let turned = stretch(rt, s, input, output, states, unread, untaken);
-        if !turned.more {
+    for _ in 0..u64::MAX {
+        if !stretch(rt, &mut script, input, output, states, words) {
             return;
         }
-        s = turned.script;
-        turns -= 1;
     }
 }

@@ -1,11 +1,6 @@
 -- What a record of bytes can be for: a refusal, a build within the sizes, or, once there is a host, a call that fits
 -- its types. Assumes nothing.
-use Prim.Native.Nat.{ℕ, zero, suc}
-use mathlib.Core.Bool.{Bool, true, false, cond}
-use mathlib.Core.Path.{◌≡◌, refl}
-use mathlib.Core.List.{List, [], ◌∷◌}
-use lib.Dec.{ltb, eqb}
-use lib.ListN.{length, get_or}
+use Rattle.std.specs.Prelude.{ℕ, zero, suc, Bool, true, false, cond, ◌≡◌, refl, Option, None, Some, List, [], ◌∷◌, ltb, eqb, length, get_or}
 use Rattle.system.specs.declared.Answer.{Answer}
 use Rattle.system.specs.declared.Answer.TheVariants.{TooLarge, BadScript}
 use Rattle.system.specs.Shape.{within_sizes}
@@ -13,7 +8,6 @@ use Rattle.verdict.specs.Sound.{within-sizes}
 use Rattle.calls.specs.declared.Call.{Call}
 use Rattle.calls.specs.Typed.{Typed}
 use Rattle.records.specs.declared.Record.{Record}
-use Rattle.records.specs.declared.MaybeCall.{MaybeCall}
 use Rattle.records.specs.declared.Shape.{Shape}
 use Rattle.records.specs.declared.Plan.{Plan}
 use Rattle.records.specs.Bytes.{FitsRecord}
@@ -39,15 +33,15 @@ fields_fit bs a =
     }
 
 -- a call, if it is one, fits its types
-abbrev MaybeTyped : MaybeCall → Type 0
-MaybeTyped MaybeCall.None = Unit {0}
-MaybeTyped (MaybeCall.Some c) = Typed c
+abbrev MaybeTyped : Option Call → Type 0
+MaybeTyped None = Unit {0}
+MaybeTyped (Some c) = Typed c
 
-abbrev AllMaybeTyped : List MaybeCall → Type 0
+abbrev AllMaybeTyped : List (Option Call) → Type 0
 AllMaybeTyped [] = Unit {0}
 AllMaybeTyped (m ∷ ms) = MaybeTyped m × AllMaybeTyped ms
 
-at-kind : (ms : List MaybeCall) → AllMaybeTyped ms → (k : ℕ) → MaybeTyped (get_or ms k MaybeCall.None)
+at-kind : (ms : List (Option Call)) → AllMaybeTyped ms → (k : ℕ) → MaybeTyped (get_or ms k None)
 at-kind [] a k = tt
 at-kind (m ∷ ms) a zero = a.0
 at-kind (m ∷ ms) a (suc k) = at-kind ms a.1 k
@@ -55,10 +49,10 @@ at-kind (m ∷ ms) a (suc k) = at-kind ms a.1 k
 call-typed : (r : Record) → FitsRecord r → MaybeTyped (call_of r)
 call-typed r f = at-kind (calls_of r) (search depth 20) r.kind
 
-call_fits : (built : Bool) (m : MaybeCall) → MaybeTyped m → Fit built (after_build built m)
-call_fits built MaybeCall.None t = refuse BadScript
-call_fits true (MaybeCall.Some c) t = call c refl t
-call_fits false (MaybeCall.Some c) t = refuse BadScript
+call_fits : (built : Bool) (m : Option Call) → MaybeTyped m → Fit built (after_build built m)
+call_fits built None t = refuse BadScript
+call_fits true (Some c) t = call c refl t
+call_fits false (Some c) t = refuse BadScript
 
 build-fits : (built : Bool) (r : Record) → FitsRecord r → Fit built (build_of r)
 build-fits built r f = go (within_sizes r.dom r.vcpu r.third) refl

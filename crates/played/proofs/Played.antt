@@ -1,13 +1,8 @@
 -- What a script holds is the host of its latest build after the calls since, and demand 3 holds of it. Assumes
 -- nothing.
-use Prim.Native.Nat.{ℕ, zero, suc, ◌+◌, ◌*◌, ◌%◌, ◌^◌}
-use mathlib.Core.Bool.{Bool, false, false≢true}
-use mathlib.Core.Path.{◌≡◌, refl, sym, ◌∙◌, ap, ap₂}
-use mathlib.Core.List.{List, [], ◌∷◌, ◌++◌}
+use Rattle.std.proofs.Common.{ℕ, zero, suc, ◌+◌, ◌*◌, ◌%◌, ◌^◌, Bool, false, ◌≡◌, refl, sym, ◌∙◌, ap, ap₂, List, [], ◌∷◌, ◌++◌, drop, add-one, arith}
+use Rattle.std.proofs.lemmas.Bool.{false≢true}
 use native.Mathlib.Nat.{mod-add-mod}
-use native.Mathlib.Numerals.{add-one}
-use native.Mathlib.Omega.{arith}
-use lib.ListN.{drop}
 use Rattle.host.specs.declared.Host.{Host}
 use Rattle.calls.specs.declared.Call.{Call}
 use Rattle.host.specs.Step.{step, host_after}

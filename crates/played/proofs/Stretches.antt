@@ -1,14 +1,9 @@
 -- A script that is taken in stretches is the whole script. Assumes nothing.
-use Prim.Native.Nat.{ℕ, ◌+◌, ◌/◌}
-use mathlib.Core.Bool.{Bool}
-use mathlib.Core.Path.{◌≡◌, refl, sym, ◌∙◌, ap, ap₂}
-use mathlib.Core.List.{List, [], ◌++◌, append-nil}
-use native.Mathlib.Nat.{zero-add, add-zero, zero-min}
-use lib.ListN.{length, take, drop}
-use lib.Seq.{take-append_seam}
+use Rattle.std.proofs.Common.{ℕ, ◌+◌, Bool, ◌≡◌, refl, sym, ◌∙◌, ap, ap₂, List, [], ◌++◌, append-nil, length, take, drop, zero-add, add-zero, arith}
+use Rattle.std.proofs.Math.Seq.{take-append_seam}
 use Rattle.text.specs.Places.{Placed}
 use Rattle.script.specs.declared.Script.{Script}
-use Rattle.script.specs.Script.{begun, script_after, text, room, taken}
+use Rattle.script.specs.Script.{begun, script_after, text, taken}
 use Rattle.script.specs.InStretches.{after_then, text-then}
 use Rattle.played.specs.Stretches.{Held, first, more, ended, EveryStretch}
 use Rattle.played.proofs.Played.{as_played}
@@ -19,7 +14,7 @@ placed-text {before} {t} p = ap₂ take (p.past ∙ zero-add (length t)) p.bytes
 
 -- of no bytes no record is taken
 none-taken : (states : Bool) (before : List ℕ) → taken states [] before ≡ 0
-none-taken states before = zero-min (length before / room states)
+none-taken states before = omega arith
 
 as_many : (states : Bool) (before : List ℕ) {k : ℕ} → k ≡ taken states [] before → (n : ℕ) → n ≡ n + k
 as_many states before e n = sym (ap (λ (m : ℕ). n + m) (e ∙ none-taken states before) ∙ add-zero n)
@@ -27,23 +22,23 @@ as_many states before e n = sym (ap (λ (m : ℕ). n + m) (e ∙ none-taken stat
 held-script : {states : Bool} {bs t : List ℕ} {n : ℕ} {c : Script} → Held states bs n t c → c ≡ script_after begun bs n
 unfolding script_after
 held-script first = refl
-held-script {states} (more {bs} {n = n} h whole stretch before out r p) =
+held-script {states} (more {bs} {n = n} h whole stretch before out after r p) =
     let m = taken states stretch before in
     p.script ∙ ap (λ (c : Script). script_after c stretch m) (held-script h) ∙ sym (after_then begun bs stretch n m whole)
     ∙ ap (λ (k : ℕ). script_after begun (bs ++ stretch) (n + k)) (sym p.records)
-held-script {states} (ended {bs} {n = n} {c} h before out r p) =
+held-script {states} (ended {bs} {n = n} {c} h before out after r p) =
     p.script ∙ ap (script_after c []) (none-taken states before) ∙ held-script h
     ∙ ap (script_after begun bs) (as_many states before p.records n)
 
 held-text : {states : Bool} {bs t : List ℕ} {n : ℕ} {c : Script} → Held states bs n t c → t ≡ text states begun bs n
 unfolding text
 held-text first = refl
-held-text {states} (more {bs} {n = n} h whole stretch before out r p) =
+held-text {states} (more {bs} {n = n} h whole stretch before out after r p) =
     let m = taken states stretch before in
     let here = placed-text p.placed ∙ ap (λ (c : Script). text states c stretch m) (held-script h) in
     ap₂ ◌++◌ (held-text h) here ∙ sym (text-then states begun bs stretch n m whole)
     ∙ ap (λ (k : ℕ). text states begun (bs ++ stretch) (n + k)) (sym p.records)
-held-text {states} (ended {bs} {t} {n} {c} h before out r p) =
+held-text {states} (ended {bs} {t} {n} {c} h before out after r p) =
     let here = placed-text p.placed ∙ ap (text states c []) (none-taken states before) in
     ap (λ (u : List ℕ). t ++ u) here ∙ append-nil t ∙ held-text h ∙ ap (text states begun bs) (as_many states before p.records n)
 

@@ -9,19 +9,19 @@ use Rattle.big_endian.specs.Numbers.{AllBytes}
 use Rattle.played.specs.Played.{written, AsPlayed}
 
 -- the bytes read so far, how many records they are, the text written so far, and the script held, where each stretch is handed to
--- `script::replay`, which keeps its contract
+-- `Script::replay`, which keeps its contract
 pub data Held (states : Bool) : List ℕ → ℕ → List ℕ → Script → Type 0 where
   -- nothing was read
   first : Held states [] 0 [] begun
   -- a stretch after whole records; its own last record may be cut off
   more : {bs t : List ℕ} {n : ℕ} {c : Script} → Held states bs n t c → length bs ≡ n * 20
-      → (stretch before out : List ℕ) (r : Taken)
-      → Replayed states c stretch (taken states stretch before) before r out
-      → Held states (bs ++ stretch) (n + r.records) (t ++ take r.written out) r.script
+      → (stretch before out : List ℕ) (after : Script) (r : Taken)
+      → Replayed states c stretch (taken states stretch before) before after r out
+      → Held states (bs ++ stretch) (n + r.records) (t ++ take r.written out) after
   -- an empty one, after the end of the input
-  ended : {bs t : List ℕ} {n : ℕ} {c : Script} → Held states bs n t c → (before out : List ℕ) (r : Taken)
-      → Replayed states c [] (taken states [] before) before r out
-      → Held states bs (n + r.records) (t ++ take r.written out) r.script
+  ended : {bs t : List ℕ} {n : ℕ} {c : Script} → Held states bs n t c → (before out : List ℕ) (after : Script) (r : Taken)
+      → Replayed states c [] (taken states [] before) before after r out
+      → Held states bs (n + r.records) (t ++ take r.written out) after
 
 -- where there is room for k records, a stretch of k whole ones is taken whole: `replay` hands over 1,000, `trace` 40
 pub whole-taken : (states : Bool) (bs out : List ℕ) (k : ℕ) → length bs ≡ k * 20 → length out ≡ k * room states

@@ -12,8 +12,6 @@ pub use Rattle.policy.proofs.DefaultLaws.{ranks-at, new-account, new-tabled, def
 pub use Rattle.policy.proofs.RenewalLaws.{renew_same, accounted-renewal}
 pub use Rattle.policy.proofs.RenewalLoop.{renews-nothing}
 -- what the code reads at a slot is the account there
-pub use Rattle.policy.proofs.AccountReads.{zeros, looked}
+pub use Rattle.policy.proofs.AccountReads.{zeros, stored}
 -- a slot's vCPU id, tested against a count that is held at 8
 pub use Rattle.policy.proofs.Ids.{vcpu-below, vcpu-beyond}
--- to store one account, weighed, is to set the weight
-pub use Rattle.policy.proofs.WeightStores.{weight-stored}

@@ -8,7 +8,6 @@ mod FloorLoop
 mod RenewalLoop
 mod AccountPuts
 mod SettingLaws
-mod WeightStores
 mod DefaultLaws
 mod RenewalLaws
 pub mod LastSlots

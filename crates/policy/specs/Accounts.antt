@@ -1,12 +1,12 @@
 -- What the policy keeps of each vCPU, and what is looked up, in its shape or outside it.
-use Rattle.std.specs.Prelude.{ℕ, ◌/◌, ◌%◌, min, max, Bool, true, false, cond, ◌&&◌, ◌≡◌, List, [], ◌∷◌, map, ltb, leb, length, get_or, set, replicate}
+use Rattle.std.specs.Prelude.{ℕ, min, max, Bool, true, false, cond, ◌&&◌, ◌≡◌, List, [], ◌∷◌, map, ltb, leb, length, get_or, set, replicate, Result, Ok, Err}
 use Rattle.service.specs.Service.{value}
+use Rattle.system.specs.declared.Answer.{Answer}
 use Rattle.system.specs.declared.Answer.TheVariants.{Done, TooLarge}
 use Rattle.system.specs.Answers.{told}
 use Rattle.system.specs.Slots.{slot}
 use Rattle.policy.specs.declared.Account.{Account}
 use Rattle.policy.specs.declared.Scheduler.{Scheduler}
-use Rattle.policy.specs.declared.Adjusted.{Adjusted}
 
 -- the weight of a vCPU that none was set for, and of one outside the shape
 abbrev pub default_weight : ℕ
@@ -43,10 +43,6 @@ covers π d v = in_shape π.domain_count π.vcpus_per_domain d v
 
 unfoldable pub account_of : Scheduler → ℕ → ℕ → Account
 account_of π d v = cond (covers π d v) (account_at π (slot d v)) plain
-
--- the account of slot i in that shape, where a is kept there
-abbrev pub looked_up : ℕ → ℕ → ℕ → Account → Account
-looked_up domains vcpus i a = cond (in_shape domains vcpus (i / 8) (i % 8)) a plain
 
 -- a weight of 0 in a damaged policy reads as the least
 abbrev pub used_weight : Account → ℕ
@@ -88,10 +84,6 @@ fresh_policy d v q =
 abbrev pub with_weight : Account → ℕ → Account
 with_weight a w = record { weight = w; offset = a.offset; was_schedulable = a.was_schedulable }
 
--- the account kept for d/v with another weight, at least the least; outside the shape as it is
-abbrev pub weighed : ℕ → ℕ → ℕ → ℕ → ℕ → Account → Account
-weighed domains vcpus d v w a = cond (in_shape domains vcpus d v) (with_weight a (raised w)) a
-
 -- what is set is at least the least
 unfoldable pub set_weight : Scheduler → ℕ → ℕ → ℕ → Scheduler
 set_weight π d v w = put_account π d v (with_weight (account_of π d v) (raised w))
@@ -115,8 +107,10 @@ pub record PolicyOutcome : Type 0 where
   pub number : ℕ
   pub policy : Scheduler
 
-abbrev pub policy_outcome : Adjusted → PolicyOutcome
-policy_outcome r = record { number = told r.answer; policy = r.policy }
+-- what building hands back: beside a refusal stands the policy of no domains and vCPUs
+abbrev pub built_outcome : Result Scheduler Answer → PolicyOutcome
+built_outcome (Ok π) = record { number = told Done; policy = π }
+built_outcome (Err a) = record { number = told a; policy = fresh_policy 0 0 0 }
 
 -- a shape above the sizes is told 7, beside the policy of no domains and vCPUs
 abbrev pub built_policy : ℕ → ℕ → ℕ → PolicyOutcome

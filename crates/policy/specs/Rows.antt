@@ -1,5 +1,5 @@
 -- What the requirements say of service, floor, accounting and the policy's own calls, in figures worked out by hand. Assumes nothing.
-use Rattle.std.specs.Prelude.{ℕ, ◌-◌, ◌^◌, true, false, refl, List, [], ◌∷◌, ◌++◌}
+use Rattle.std.specs.Prelude.{ℕ, ◌-◌, ◌^◌, true, false, refl, List, [], ◌∷◌, ◌++◌, replicate, Option, None, Some}
 use Rattle.rows.specs.Rows.{Row, row, rows, test, AllDue}
 use Rattle.scans.specs.Scan.{scan}
 use Rattle.service.specs.Service.{value, limbs, held, more_deserving}
@@ -9,7 +9,9 @@ use Rattle.system.specs.Shape.{fresh}
 use Rattle.system.specs.Writes.{put_vcpu}
 use Rattle.policy.specs.declared.Account.{Account}
 use Rattle.policy.specs.declared.Share.{Share}
-use Rattle.policy.specs.Accounts.{account_at, account_of, put_account, fresh_policy, weighed, set_weight, set_wake_boost, built_policy}
+use Rattle.policy.specs.declared.Scheduler.{Scheduler}
+use Rattle.policy.specs.Accounts.{account_at, account_of, with_accounts, put_account, fresh_policy}
+use Rattle.policy.specs.Accounts.{set_weight, set_wake_boost, built_policy}
 use Rattle.policy.specs.Standing.{service_by, deserves}
 use Rattle.policy.specs.Accounting.{floor, renewed, renew_first, accounted}
 use Rattle.policy.specs.OneAccount.{leader, renewed_at}
@@ -135,6 +137,14 @@ outside =
     ∷ rows (looks (shaped 1 2 (shaped 1 1 (policy (pooled 5 7) (pooled 5 7)))) 0 1) (5 ∷ 7 ∷ 1 ∷ [])
     ∷ []
 
+-- a policy of that shape, whose accounts all have weight 5
+abbrev all_light : ℕ → ℕ → Scheduler
+all_light e u = with_accounts (fresh_policy e u 10) (replicate 128 (pooled 5 7))
+
+-- the weight that is kept at slot i
+abbrev weight_kept : Scheduler → ℕ → ℕ
+weight_kept π i = (account_at π i).weight
+
 -- what `set_weight` and `set_wake_boost` leave
 abbrev settings : List Row
 settings =
@@ -143,10 +153,10 @@ settings =
     ∷ rows (looks (set_weight (policy (pooled 3 9) (pooled 5 7)) 0 1 6) 0 0) (3 ∷ 9 ∷ 1 ∷ [])
     -- 0 is stored as 1, and a stored 0 is read as 1
     ∷ row (account_of (set_weight (policy (pooled 3 9) (pooled 5 7)) 0 1 0) 0 1).weight 1
-    -- the same of one account, in a shape of 2 domains of 3 vCPUs and outside it
-    ∷ rows ((weighed 2 3 1 2 6 (pooled 5 7)).weight ∷ (weighed 2 3 1 2 0 (pooled 5 7)).weight ∷ []) (6 ∷ 1 ∷ [])
-    ∷ rows ((weighed 2 3 2 2 6 (pooled 5 7)).weight ∷ (weighed 2 3 1 3 6 (pooled 5 7)).weight ∷ []) (5 ∷ 5 ∷ [])
-    ∷ row (weighed 20 9 16 0 6 (pooled 5 7)).weight 5
+    -- the same of the account that is kept, in a shape of 2 domains of 3 vCPUs and outside it
+    ∷ rows (weight_kept (set_weight (all_light 2 3) 1 2 6) 10 ∷ weight_kept (set_weight (all_light 2 3) 1 2 0) 10 ∷ []) (6 ∷ 1 ∷ [])
+    ∷ rows (weight_kept (set_weight (all_light 2 3) 2 2 6) 18 ∷ weight_kept (set_weight (all_light 2 3) 1 3 6) 11 ∷ []) (5 ∷ 5 ∷ [])
+    ∷ row (weight_kept (set_weight (all_light 20 9) 16 0 6) 0) 5
     ∷ rows (looks (policy (pooled 3 9) (pooled 0 7)) 0 1) (1 ∷ 7 ∷ 1 ∷ [])
     -- boost set clears the offsets alone, on or off
     ∷ rows (looks (set_wake_boost (policy (pooled 3 9) (pooled 5 7)) false) 0 1) (5 ∷ 0 ∷ 1 ∷ [])
@@ -186,16 +196,14 @@ built =
     ∷ row (built_policy 16 9 10).number 7
     ∷ []
 
--- nobody leads, and one of that service and weight does
-abbrev unled : Share
-unled = record { found = false; service = held 0; weight = 1 }
+-- one of that service and weight leads
+abbrev led : ℕ → ℕ → Option Share
+led service weight = Some (record { service = held service; weight = weight })
 
-abbrev led : ℕ → ℕ → Share
-led service weight = record { found = true; service = held service; weight = weight }
-
--- whether one leads, its service and its weight
-abbrev leads : Share → List ℕ
-leads l = test l.found ∷ value l.service ∷ l.weight ∷ []
+-- who leads, by service and weight
+abbrev leads : Option Share → List ℕ
+leads None = []
+leads (Some l) = value l.service ∷ l.weight ∷ []
 
 -- an account's weight, offset and snapshot
 abbrev kept : Account → List ℕ
@@ -205,19 +213,19 @@ kept a = a.weight ∷ value a.offset ∷ test a.was_schedulable ∷ []
 abbrev elements : List Row
 elements =
     -- one that stayed, 5 and 10 in flight, leads where nobody did; not one that joined, nor one that left
-    rows (leads (leader unled (runs 0 5) (pooled 256 0) 100)) (1 ∷ 15 ∷ 256 ∷ [])
-    ∷ rows (leads (leader unled (waits 5) (away 256 0) 100)) (0 ∷ 0 ∷ 1 ∷ [])
-    ∷ rows (leads (leader unled (blocked 5) (pooled 256 0) 100)) (0 ∷ 0 ∷ 1 ∷ [])
+    rows (leads (leader None (runs 0 5) (pooled 256 0) 100)) (15 ∷ 256 ∷ [])
+    ∷ rows (leads (leader None (waits 5) (away 256 0) 100)) []
+    ∷ rows (leads (leader None (blocked 5) (pooled 256 0) 100)) []
     -- 18 over 2 takes the lead from 10 over 1, 20 over 2 does not
-    ∷ rows (leads (leader (led 10 1) (waits 18) (pooled 2 0) 100)) (1 ∷ 18 ∷ 2 ∷ [])
-    ∷ rows (leads (leader (led 10 1) (waits 20) (pooled 2 0) 100)) (1 ∷ 10 ∷ 1 ∷ [])
+    ∷ rows (leads (leader (led 10 1) (waits 18) (pooled 2 0) 100)) (18 ∷ 2 ∷ [])
+    ∷ rows (leads (leader (led 10 1) (waits 20) (pooled 2 0) 100)) (10 ∷ 1 ∷ [])
     -- one that joined, weight 2, run time 5, is placed at 10 over 1: 20 less 5
-    ∷ rows (kept (renewed_at (waits 5) (away 2 7) (led 10 1) true)) (2 ∷ 15 ∷ 1 ∷ [])
+    ∷ rows (kept (renewed_at (waits 5) (away 2 7) (led 10 1))) (2 ∷ 15 ∷ 1 ∷ [])
     -- not with boost off, where nobody leads, or one that stayed or left
-    ∷ rows (kept (renewed_at (waits 5) (away 2 7) (led 10 1) false)) (2 ∷ 7 ∷ 1 ∷ [])
-    ∷ rows (kept (renewed_at (waits 5) (away 2 7) unled true)) (2 ∷ 7 ∷ 1 ∷ [])
-    ∷ rows (kept (renewed_at (waits 5) (pooled 2 7) (led 10 1) true)) (2 ∷ 7 ∷ 1 ∷ [])
-    ∷ rows (kept (renewed_at (blocked 5) (pooled 2 7) (led 10 1) true)) (2 ∷ 7 ∷ 0 ∷ [])
+    ∷ rows (kept (account_of (accounted (pair (waits 10) (waits 5)) (unlifting (pooled 1 0) (away 2 7)) 100) 0 1)) (2 ∷ 7 ∷ 1 ∷ [])
+    ∷ rows (kept (renewed_at (waits 5) (away 2 7) None)) (2 ∷ 7 ∷ 1 ∷ [])
+    ∷ rows (kept (renewed_at (waits 5) (pooled 2 7) (led 10 1))) (2 ∷ 7 ∷ 1 ∷ [])
+    ∷ rows (kept (renewed_at (blocked 5) (pooled 2 7) (led 10 1))) (2 ∷ 7 ∷ 0 ∷ [])
     ∷ []
 
 abbrev pub table : List Row

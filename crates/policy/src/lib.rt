@@ -3,17 +3,18 @@
 
 #![tactic(auto)]
 
-ghost use Rattle.std.specs.Prelude.{◌≡◌};
-ghost use Rattle.service.specs.Service.{value, held};
-ghost use Rattle.system.specs.States.{schedulable};
-ghost use Rattle.policy.specs.Accounts.{raised, looked_up, used_weight, weighed, weight_of, set_weight, set_wake_boost};
-ghost use Rattle.policy.specs.Accounts.{fresh_policy, policy_outcome, built_policy};
+ghost use Rattle.std.specs.Prelude.{◌≡◌, ◌/◌, ◌%◌, ◌&&◌, IfErr};
+ghost use Rattle.system.specs.declared.Answer.TheVariants.{TooLarge};
+ghost use Rattle.service.specs.Service.{held};
+ghost use Rattle.system.specs.Slots.{slots};
+ghost use Rattle.policy.specs.Accounts.{raised, covers, account_of, used_weight, weight_of, set_weight, set_wake_boost};
+ghost use Rattle.policy.specs.Accounts.{built_outcome, built_policy};
 ghost use Rattle.policy.specs.Standing.{service_of};
-ghost use Rattle.policy.specs.Accounting.{accounted};
-ghost use Rattle.policy.specs.OneAccount.{undercuts, leader, lifted_to, renewed_at};
+ghost use Rattle.policy.specs.Accounting.{floor, accounted};
+ghost use Rattle.policy.specs.OneAccount.{joins, some_join, undercuts, leader, share_of, lifted_to, renewed_at, renew_by};
 
 use service::Service;
-use system::{Answer, DomId, RunState, System, Ticks, Vcpu, VirtualCpu, least, runtime_until};
+use system::{Answer, DomId, System, Ticks, Vcpu, VirtualCpu};
 
 /// A vCPU's proportional share.
 pub type Weight = u32;
@@ -28,18 +29,9 @@ pub const DEFAULT_WEIGHT: Weight = 256;
 pub struct Account {
     pub weight: Weight,
     /// Service added for ranking: what placed a waker at the floor.
-    pub offset: [u32; 4],
+    pub offset: Service,
     /// Whether it was Runnable or Running at the last accounting.
     pub was_schedulable: bool,
-}
-
-impl Account {
-    /// The account of a vCPU for which nothing was done, and of one outside the shape.
-    pub const PLAIN: Account = Account {
-        weight: DEFAULT_WEIGHT,
-        offset: [0; 4],
-        was_schedulable: false,
-    };
 }
 
 /// A scheduling policy, of a shape of its own. vCPU d/v stands at d × 8 + v.
@@ -53,297 +45,240 @@ pub struct Scheduler {
     pub wake_boost: bool,
 }
 
-/// An answer, and the policy that the call leaves.
+// The service and weight of whoever leads the scan for the floor so far.
 #[derive(Clone, Copy)]
-pub struct Adjusted {
-    pub answer: Answer,
-    pub policy: Scheduler,
-}
-
-// A policy as built.
-fn as_built(num_domains: usize, vcpus_per_domain: usize, quantum: Ticks) -> Scheduler
-    ensures { result ≡ fresh_policy num_domains vcpus_per_domain quantum }
-{
-    Scheduler {
-        domain_count: num_domains,
-        vcpus_per_domain,
-        accounts: [Account::PLAIN; 128],
-        quantum,
-        wake_boost: true,
-    }
-}
-
-// ---- one vCPU's account
-
-/// The account looked up for slot `i`, where `stored` is the one kept there.
-pub fn looked_up(domain_count: usize, vcpus_per_domain: usize, i: usize, stored: Account) -> Account
-    ensures { result ≡ looked_up domain_count vcpus_per_domain i stored }
-{
-    if i / 8 < least(domain_count, system::MAX_DOMAINS) {
-        if i % 8 < vcpus_per_domain {
-            return stored;
-        }
-    }
-    Account::PLAIN
+struct Share {
+    service: Service,
+    weight: Weight,
 }
 
 // A weight, at least the least.
 fn raised(weight: Weight) -> Weight
     ensures { result ≡ raised weight }
 {
-    if weight < MIN_WEIGHT {
-        MIN_WEIGHT
-    } else {
-        weight
-    }
-}
-
-/// The weight that is used: one of 0, in a damaged policy, reads as the least.
-pub fn used_weight(a: Account) -> Weight
-    ensures { result ≡ used_weight a }
-{
-    raised(a.weight)
-}
-
-/// The account of vCPU dom/vcpu with another weight, at least the least; outside the shape as it is.
-pub fn weighed(
-    domain_count: usize,
-    vcpus_per_domain: usize,
-    dom: DomId,
-    vcpu: Vcpu,
-    weight: Weight,
-    stored: Account,
-) -> Account
-    ensures { result ≡ weighed domain_count vcpus_per_domain dom vcpu weight stored }
-{
-    if (dom as usize) < least(domain_count, system::MAX_DOMAINS) {
-        if (vcpu as usize) < least(vcpus_per_domain, system::MAX_VCPUS) {
-            let mut a = stored;
-            a.weight = raised(weight);
-            return a;
-        }
-    }
-    stored
+    weight.max(MIN_WEIGHT)
 }
 
 /// A vCPU's service: its run time up to the reading, and the offset.
-pub fn service_of(v: VirtualCpu, a: Account, now: Ticks) -> Service
-    ensures { result ≡ held (service_of v a now) }
+pub fn service_of(v: &VirtualCpu, a: &Account, now: Ticks) -> Service
+    ensures { result ≡ held (service_of v.now a.now now) }
 {
-    let offset = a.offset;
-    service::sum(runtime_until(v, now), offset)
-}
-
-// Whether a vCPU is in the pool: Runnable or Running.
-fn is_schedulable(v: VirtualCpu) -> bool
-    ensures { result ≡ schedulable v.state }
-{
-    let state = v.state;
-    match state {
-        RunState::Offline => false,
-        RunState::Runnable => true,
-        RunState::Running { pcpu: _ } => true,
-        RunState::Blocked => false,
-    }
-}
-
-// ---- accounting
-
-// The service and weight of whoever leads the scan for the floor so far.
-#[derive(Clone, Copy)]
-struct Share {
-    found: bool,
-    service: [u32; 4],
-    weight: Weight,
+    service::sum(v.runtime_until(now), a.offset)
 }
 
 impl Share {
-    const NOBODY: Share = Share {
-        found: false,
-        service: [0; 4],
-        weight: MIN_WEIGHT,
+    // Whether it comes before the floor so far: strictly, so that the earliest leads.
+    fn undercuts(&self, best: Option<Share>) -> bool
+        ensures { result ≡ undercuts self.now best }
+    {
+        let Some(led) = best else {
+            return true;
+        };
+        service::more_deserving(self.service, self.weight, led.service, led.weight)
+    }
+
+    // The offset that places a vCPU at this floor: what the floor's service is worth at the vCPU's weight,
+    // less what it ran.
+    fn lifted(&self, weight: Weight, runtime: Ticks) -> Service
+        ensures { result ≡ lifted_to self.now weight runtime }
+    {
+        let worth = service::quotient(service::product(self.service, weight), self.weight);
+        service::difference(worth, service::from_u64(runtime))
+    }
+}
+
+impl Account {
+    /// The account of a vCPU for which nothing was done, and of one outside the shape.
+    pub const PLAIN: Account = Account {
+        weight: DEFAULT_WEIGHT,
+        offset: [0; 4],
+        was_schedulable: false,
     };
-}
 
-// Whether a service at a weight comes before the floor so far: strict, so that the earliest leads.
-fn undercuts(best: Share, service: [u32; 4], weight: Weight) -> bool
-    ensures { result ≡ undercuts best (value service) weight }
-{
-    let t = best.service;
-    if best.found {
-        service::more_deserving(service, weight, t, best.weight)
-    } else {
-        true
+    /// The weight that is used: one of 0, in a damaged policy, reads as the least.
+    pub fn used_weight(&self) -> Weight
+        ensures { result ≡ used_weight self.now }
+    {
+        raised(self.weight)
     }
-}
 
-// Who leads once a vCPU was compared: only one in the pool now and at the last snapshot can.
-fn leader(best: Share, v: VirtualCpu, a: Account, now: Ticks) -> Share
-    ensures { result ≡ leader best v a now }
-{
-    let stayed = a.was_schedulable;
-    if is_schedulable(v) {
-        if stayed {
-            let service = service_of(v, a, now);
-            let weight = used_weight(a);
-            if undercuts(best, service, weight) {
-                return Share {
-                    found: true,
-                    service,
-                    weight,
-                };
+    // Whether the vCPU joined the pool: it is in it, and was not at the last snapshot.
+    fn joins(&self, v: &VirtualCpu) -> bool
+        ensures { result ≡ joins v.now self.now }
+    {
+        v.state.is_schedulable() && !self.was_schedulable
+    }
+
+    // Who leads once the vCPU was compared: only one in the pool now and at the last snapshot can.
+    fn leader(&self, v: &VirtualCpu, best: Option<Share>, now: Ticks) -> Option<Share>
+        ensures { result ≡ leader best v.now self.now now }
+    {
+        if v.state.is_schedulable() && self.was_schedulable {
+            let share = Share {
+                service: service_of(v, self, now),
+                weight: self.used_weight(),
+            };
+            if share.undercuts(best) {
+                return Some(share);
             }
         }
+        best
     }
-    best
-}
 
-// The offset that places a vCPU at the floor: what the floor's service is worth at the vCPU's weight,
-// less what it ran.
-fn lifted(f: Share, weight: Weight, runtime: Ticks) -> [u32; 4]
-    ensures { result ≡ lifted_to f weight runtime }
-{
-    let base = f.service;
-    let worth = service::quotient(service::product(base, weight), f.weight);
-    service::difference(worth, service::from_u64(runtime))
-}
-
-// A vCPU's account, renewed: one that joined the pool is placed at the floor, if there is one.
-fn renewed(v: VirtualCpu, a: Account, f: Share, wake_boost: bool) -> Account
-    ensures { result ≡ renewed_at v a f wake_boost }
-{
-    let stands = is_schedulable(v);
-    let mut offset = a.offset;
-    if wake_boost {
-        if stands {
-            if !a.was_schedulable {
-                if f.found {
-                    offset = lifted(f, used_weight(a), v.runtime);
-                }
+    // Renews the snapshot, and places one that joined the pool at the floor, if there is one.
+    fn renew(&mut self, v: &VirtualCpu, floor: Option<Share>)
+        ensures { self.new ≡ renewed_at v.now self.old floor }
+    {
+        if let Some(share) = floor {
+            if self.joins(v) {
+                self.offset = share.lifted(self.used_weight(), v.runtime);
             }
         }
-    }
-    Account {
-        weight: a.weight,
-        offset,
-        was_schedulable: stands,
+        self.was_schedulable = v.state.is_schedulable();
     }
 }
-
-/// The policy after an accounting: whoever joined the pool is placed at the floor of those that
-/// stayed in it, and the snapshot is renewed.
-// Whoever owns the records holds the loops over them: handed to a function, they would be copied.
-pub fn accounted(s: System, mut p: Scheduler, now: Ticks) -> Scheduler
-    ensures { result ≡ accounted s p now }
-{
-    let n = least(s.domain_count, system::MAX_DOMAINS) * 8;
-    let k = s.vcpus_per_domain;
-    // Whether anybody joined: a look at flags, much cheaper than the search for the floor.
-    let mut some = false;
-    let mut i: usize = 0;
-    while i < n {
-        if i % 8 < k {
-            let v = s.vcpus[i];
-            let a = p.accounts[i];
-            some = (is_schedulable(v) & !a.was_schedulable) | some;
-        }
-        i += 1;
-    }
-    // The floor is that of the old snapshot, and is looked for only where somebody is placed at it.
-    let mut best = Share::NOBODY;
-    if some & p.wake_boost {
-        let mut j: usize = 0;
-        while j < n {
-            if j % 8 < k {
-                let v = s.vcpus[j];
-                let a = looked_up(p.domain_count, p.vcpus_per_domain, j, p.accounts[j]);
-                best = leader(best, v, a, now);
-            }
-            j += 1;
-        }
-    }
-    let h = least(k, p.vcpus_per_domain);
-    let mut l: usize = 0;
-    while l < n {
-        if l % 8 < h {
-            if l / 8 < p.domain_count {
-                let v = s.vcpus[l];
-                let a = p.accounts[l];
-                p.accounts[l] = renewed(v, a, best, p.wake_boost);
-            }
-        }
-        l += 1;
-    }
-    p
-}
-
-// ---- the policy's own calls
 
 impl Scheduler {
-    /// A policy of that shape, boost on. One above the sizes is refused, beside the policy of no
-    /// domains and vCPUs.
-    pub fn new(num_domains: usize, vcpus_per_domain: usize, quantum: Ticks) -> Adjusted
-        ensures { policy_outcome result ≡ built_policy num_domains vcpus_per_domain quantum }
+    /// A policy of that shape, boost on. One above the sizes is refused.
+    #[tactic(auto, unfolding(crate::specs::Accounts::fresh_policy))]
+    pub fn new(
+        num_domains: usize,
+        vcpus_per_domain: usize,
+        quantum: Ticks,
+    ) -> Result<Scheduler, Answer>
+        ensures built { built_outcome result ≡ built_policy num_domains vcpus_per_domain quantum }
+        ensures refused { IfErr result (λ a. a ≡ TooLarge) }
     {
-        if system::within_sizes(num_domains, vcpus_per_domain, 0) {
-            Adjusted {
-                answer: Answer::Done,
-                policy: as_built(num_domains, vcpus_per_domain, quantum),
-            }
-        } else {
-            Adjusted {
-                answer: Answer::TooLarge,
-                policy: as_built(0, 0, 0),
-            }
+        if !system::within_sizes(num_domains, vcpus_per_domain, 0) {
+            return Err(Answer::TooLarge);
         }
+        Ok(Scheduler {
+            domain_count: num_domains,
+            vcpus_per_domain,
+            accounts: [Account::PLAIN; 128],
+            quantum,
+            wake_boost: true,
+        })
+    }
+
+    // Whether dom/vcpu is in the shape; a damaged count is held at its size.
+    fn covers(&self, dom: usize, vcpu: usize) -> bool
+        ensures { result ≡ covers self.now dom vcpu }
+    {
+        dom < self.domain_count.min(system::MAX_DOMAINS)
+            && vcpu < self.vcpus_per_domain.min(system::MAX_VCPUS)
+    }
+
+    // The account of dom/vcpu; outside the shape that of a vCPU for which nothing was done.
+    fn account_of(&self, dom: usize, vcpu: usize) -> Account
+        ensures { result ≡ account_of self.now dom vcpu }
+    {
+        if self.covers(dom, vcpu) {
+            self.accounts[dom * 8 + vcpu]
+        } else {
+            Account::PLAIN
+        }
+    }
+
+    /// The account of the vCPU at slot `i`; outside the shape that of one for which nothing was done.
+    pub fn account_at(&self, i: usize) -> Account
+        ensures { result ≡ account_of self.now (i / 8) (i % 8) }
+    {
+        self.account_of(i / 8, i % 8)
     }
 
     /// The weight of a vCPU; the default outside the shape.
-    pub fn weight_of(self, dom: DomId, vcpu: Vcpu) -> Weight
-        ensures { result ≡ weight_of self dom vcpu }
+    pub fn weight_of(&self, dom: DomId, vcpu: Vcpu) -> Weight
+        ensures { result ≡ weight_of self.now dom vcpu }
     {
-        let d = dom as usize;
-        let v = vcpu as usize;
-        if d < least(self.domain_count, system::MAX_DOMAINS) {
-            if v < least(self.vcpus_per_domain, system::MAX_VCPUS) {
-                let a = self.accounts[d * 8 + v];
-                return used_weight(a);
-            }
-        }
-        DEFAULT_WEIGHT
+        self.account_of(dom as usize, vcpu as usize).used_weight()
     }
 
     /// Another weight for a vCPU, at least the least; ids outside the shape are ignored.
-    pub fn set_weight(self, dom: DomId, vcpu: Vcpu, weight: Weight) -> Scheduler
-        ensures { result ≡ set_weight self dom vcpu weight }
+    pub fn set_weight(&mut self, dom: DomId, vcpu: Vcpu, weight: Weight)
+        ensures { self.new ≡ set_weight self.old dom vcpu weight }
     {
-        let mut p = self;
-        let i = system::slot_read(dom, vcpu);
-        let a = p.accounts[i];
-        p.accounts[i] = weighed(p.domain_count, p.vcpus_per_domain, dom, vcpu, weight, a);
-        p
+        let d = dom as usize;
+        let v = vcpu as usize;
+        if self.covers(d, v) {
+            self.accounts[d * 8 + v].weight = raised(weight);
+        }
     }
 
     /// Ticks after which a runner may be preempted.
-    pub fn quantum(self) -> Ticks
-        ensures { result ≡ self.quantum }
+    pub fn quantum(&self) -> Ticks
+        ensures { result ≡ self.now.quantum }
     {
         self.quantum
     }
 
     /// Boost on or off. All offsets are cleared.
-    pub fn set_wake_boost(self, enabled: bool) -> Scheduler
-        ensures { result ≡ set_wake_boost self enabled }
+    pub fn set_wake_boost(&mut self, enabled: bool)
+        ensures { self.new ≡ set_wake_boost self.old enabled }
     {
-        let mut p = self;
-        let mut i: usize = 0;
-        while i < 128 {
-            let mut a = p.accounts[i];
+        for a in self.accounts.iter_mut() {
             a.offset = [0; 4];
-            p.accounts[i] = a;
-            i += 1;
         }
-        p.wake_boost = enabled;
-        p
+        self.wake_boost = enabled;
+    }
+
+    // Whether anybody joined the pool: a look at flags, much cheaper than the search for the floor.
+    fn some_joined(&self, s: &System) -> bool
+        ensures { result ≡ some_join s.now self.now (slots s.now) }
+    {
+        let n = s.domain_count() * 8;
+        for i in 0..n {
+            if i % 8 < s.vcpus_per_domain && self.accounts[i].joins(&s.vcpus[i]) {
+                return true;
+            }
+        }
+        false
+    }
+
+    // Whether the floor is to be looked for: only where somebody is placed at it.
+    fn wants_floor(&self, s: &System) -> bool
+        ensures { result ≡ (self.now.wake_boost && some_join s.now self.now (slots s.now)) }
+    {
+        self.wake_boost && self.some_joined(s)
+    }
+
+    // The most deserving of those that stayed in the pool since the last snapshot.
+    fn floor(&self, s: &System, now: Ticks) -> Option<Share>
+        ensures { result ≡ share_of s.now self.now now (floor s.now self.now now) }
+    {
+        let n = s.domain_count() * 8;
+        let mut best = None;
+        for i in 0..n {
+            if i % 8 < s.vcpus_per_domain {
+                best = self.account_at(i).leader(&s.vcpus[i], best, now);
+            }
+        }
+        best
+    }
+
+    // Every account that the shape covers is renewed, with that floor.
+    fn renew(&mut self, s: &System, floor: Option<Share>)
+        ensures { self.new ≡ renew_by s.now self.old floor (slots s.now) }
+    {
+        let n = s.domain_count() * 8;
+        for i in 0..n {
+            if i % 8 < s.vcpus_per_domain && self.covers(i / 8, i % 8) {
+                self.accounts[i].renew(&s.vcpus[i], floor);
+            }
+        }
+    }
+
+    /// An accounting: whoever joined the pool is placed at the floor of those that stayed in it, and the
+    /// snapshot is renewed.
+    pub fn account(&mut self, s: &System, now: Ticks)
+        ensures { self.new ≡ accounted s.now self.old now }
+    {
+        // The floor is that of the old snapshot.
+        let floor = if self.wants_floor(s) {
+            self.floor(s, now)
+        } else {
+            None
+        };
+        self.renew(s, floor);
     }
 }

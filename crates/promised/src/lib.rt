@@ -1,6 +1,6 @@
 //! Each public operation of the scheduler and of its formats, promised in the page's words alone: the code is proved
 //! against the page, and no other definition need be believed. A module `of_host` has the operations of the crate
-//! `host`, each under its own name.
+//! `host`, each under its own name; a method of `RunState` or of `Occupant` has `state_` or `occupant_` before it.
 
 #![tactic(auto)]
 

@@ -3,18 +3,18 @@
 ghost use Rattle.page.specs.Advance.{next_told, advance};
 ghost use Rattle.page.specs.Handed.{HandsDecision, HandsAdvance};
 
-use advance::{Advanced, Recommendation};
+use advance::{Decision, Outcome};
 use policy::Scheduler;
-use system::{System, Ticks};
+use system::{Answer, System, Ticks};
 
-pub fn next(s: System, p: Scheduler, now: Ticks) -> Recommendation
-    ensures { HandsDecision result (next_told s p now) }
+pub fn next(s: &System, p: &Scheduler, now: Ticks) -> Result<Decision, Answer>
+    ensures { HandsDecision result (next_told s.now p.now now) }
 {
     advance::next(s, p, now)
 }
 
-pub fn advance(s: System, p: Scheduler, now: Ticks) -> Advanced
-    ensures { HandsAdvance result (advance s p now) }
+pub fn advance(s: &mut System, p: &mut Scheduler, now: Ticks) -> Outcome
+    ensures { HandsAdvance result s.new p.new (advance s.old p.old now) }
 {
     advance::advance(s, p, now)
 }

@@ -1,11 +1,13 @@
 //! A load: opened, and handed out record by record.
 
+#![tactic(auto, using(crate::proofs::Page::loads))]
+
 ghost use Rattle.std.specs.Prelude.{◌≡◌};
 ghost use Rattle.page.specs.Load.{opened, left, handed, filled, filled_out};
 ghost use Rattle.page.specs.Handed.{HandsLoad};
 
-use load_script::{Filled, Handed, Load, Opened};
-use records::Shape;
+use load_script::{Load, Opened};
+use records::{Record, Shape};
 
 pub fn open(seed: u64, shape: Shape, count: u32) -> Opened
     ensures { HandsLoad result (opened seed shape count) }
@@ -13,21 +15,24 @@ pub fn open(seed: u64, shape: Shape, count: u32) -> Opened
     load_script::open(seed, shape, count)
 }
 
-pub fn records_left(load: Load) -> usize
-    ensures { result ≡ left load }
+pub fn records_left(load: &Load) -> usize
+    ensures { result ≡ left load.now }
 {
-    load_script::records_left(load)
+    load.records_left()
 }
 
-pub fn next(load: Load) -> Handed
-    ensures { result ≡ handed load }
+/// A load is an iterator of its records.
+pub fn next(load: &mut Load) -> Option<Record>
+    ensures handed_out { result ≡ (handed load.old).next }
+    ensures load { load.new ≡ (handed load.old).load }
 {
-    load_script::next(load)
+    load.next()
 }
 
-pub fn fill(load: Load, out: &mut [u8]) -> Filled
-    ensures bytes_after { out.new ≡ filled_out load out.old }
-    ensures handed_back { result ≡ filled load out.old }
+pub fn fill(load: &mut Load, out: &mut [u8]) -> usize
+    ensures bytes_after { out.new ≡ filled_out load.old out.old }
+    ensures load { load.new ≡ (filled load.old out.old).load }
+    ensures written { result ≡ (filled load.old out.old).written }
 {
-    load_script::fill(load, out)
+    load.fill(out)
 }

@@ -1,5 +1,7 @@
 //! Sets of pCPUs.
 
+#![tactic(auto, using(crate::proofs::Page::leaves))]
+
 ghost use Rattle.std.specs.Prelude.{◌≡◌};
 ghost use Rattle.page.specs.Leaves.{pcpu_bit, full_mask, clip, lowest_pcpu};
 ghost use Rattle.page.specs.Next.{admits};

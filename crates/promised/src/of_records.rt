@@ -1,5 +1,7 @@
 //! Records of a script: read, obeyed and written.
 
+#![tactic(auto, using(crate::proofs::Page::scripts))]
+
 ghost use Rattle.std.specs.Prelude.{◌≡◌};
 ghost use Rattle.page.specs.Script.{record_at, plan, put_record};
 

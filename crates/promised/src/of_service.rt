@@ -1,5 +1,7 @@
 //! A service, as four limbs.
 
+#![tactic(auto, using(crate::proofs::Page::leaves))]
+
 ghost use Rattle.std.specs.Prelude.{◌≡◌};
 ghost use Rattle.page.specs.Policy.{four};
 ghost use Rattle.page.specs.Leaves.{sum, product, quotient, difference, less, more_deserving};

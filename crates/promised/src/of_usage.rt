@@ -8,9 +8,9 @@ use service::Service;
 use system::{DomId, System, Ticks};
 
 /// It is exact: the four limbs hold it whole.
-pub fn usage(s: System, dom: DomId, now: Ticks) -> Service
-    ensures limbs { result ≡ four (usage s dom now) }
-    ensures exact { number result ≡ usage s dom now }
+pub fn usage(s: &System, dom: DomId, now: Ticks) -> Service
+    ensures limbs { result ≡ four (usage s.now dom now) }
+    ensures exact { number result ≡ usage s.now dom now }
 {
     usage::usage(s, dom, now)
 }

@@ -1,12 +1,21 @@
-//! A domain's body of a usage file as text.
+//! A usage file as text: a domain's body, or the first domains by a count that is kept beside the file.
+
+#![tactic(auto, using(crate::proofs::Page::files))]
 
 ghost use Rattle.std.specs.Prelude.{◌≡◌};
-ghost use Rattle.page.specs.UsageFile.{body_text_of};
+ghost use Rattle.page.specs.UsageFile.{body_text, text_by};
 
-use usage_text::BodyText;
+use usage_text::{BodyText, FileText};
 
 pub fn body_text(domain: u64, body: &[u8]) -> BodyText
-    ensures { result ≡ body_text_of domain body.now }
+    ensures { result.items ≡ body_text domain body.now }
 {
     usage_text::body_text(domain, body)
+}
+
+pub fn file_text(file: &[u8], count: Option<usize>, n: usize) -> FileText
+    ensures text { result.text.items ≡ text_by file.now count n }
+    ensures count { result.count ≡ count }
+{
+    usage_text::file_text(file, count, n)
 }

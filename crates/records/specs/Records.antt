@@ -1,12 +1,11 @@
 -- A record of a script: 20 bytes, each field with its most significant byte first.
-use Rattle.std.specs.Prelude.{ℕ, Bool, cond, not, List, [], ◌∷◌, ltb, leb, eqb, length, get_or}
+use Rattle.std.specs.Prelude.{ℕ, Bool, Option, None, Some, cond, not, List, [], ◌∷◌, ltb, leb, eqb, length, get_or}
 use Rattle.big_endian.specs.Numbers.{number}
 use Rattle.system.specs.declared.Answer.TheVariants.{TooLarge, BadScript}
 use Rattle.system.specs.Shape.{within_sizes}
 use Rattle.calls.specs.declared.Call.{Call}
 use Rattle.calls.specs.declared.Request.{Request}
 use Rattle.records.specs.declared.Record.{Record}
-use Rattle.records.specs.declared.MaybeCall.{MaybeCall}
 use Rattle.records.specs.declared.Shape.{Shape}
 use Rattle.records.specs.declared.Plan.{Plan}
 
@@ -22,13 +21,13 @@ unfoldable pub record_at : List ℕ → Record
 record_at bs = cond (leb 20 (length bs)) (record_of bs) cut_off
 
 -- a call that asks something of one vCPU
-abbrev pub asked : ℕ → ℕ → Request → MaybeCall
-asked d v q = MaybeCall.Some (Call.Ask d v q)
+abbrev pub asked : ℕ → ℕ → Request → Option Call
+asked d v q = Some (Call.Ask d v q)
 
 -- the calls by their kinds, from 0 on; kind 0 calls no host, it builds one
-abbrev pub calls_of : Record → List MaybeCall
+abbrev pub calls_of : Record → List (Option Call)
 calls_of r =
-    MaybeCall.None
+    None
     ∷ asked r.dom r.vcpu Request.Admit
     ∷ asked r.dom r.vcpu (Request.Run r.third r.value)
     ∷ asked r.dom r.vcpu (Request.Preempt r.value)
@@ -36,13 +35,13 @@ calls_of r =
     ∷ asked r.dom r.vcpu Request.Wake
     ∷ asked r.dom r.vcpu (Request.Offline r.value)
     ∷ asked r.dom r.vcpu (Request.SetAffinity r.value)
-    ∷ MaybeCall.Some (Call.SetWeight r.dom r.vcpu r.third)
-    ∷ MaybeCall.Some (Call.Advance r.value)
-    ∷ MaybeCall.Some (Call.SetWakeBoost (not (eqb r.value 0)))
+    ∷ Some (Call.SetWeight r.dom r.vcpu r.third)
+    ∷ Some (Call.Advance r.value)
+    ∷ Some (Call.SetWakeBoost (not (eqb r.value 0)))
     ∷ []
 
-abbrev pub call_of : Record → MaybeCall
-call_of r = get_or (calls_of r) r.kind MaybeCall.None
+abbrev pub call_of : Record → Option Call
+call_of r = get_or (calls_of r) r.kind None
 
 -- a build of that shape and slice, if it is within the sizes
 abbrev pub shape_of : Record → Shape
@@ -53,9 +52,9 @@ abbrev pub build_of : Record → Plan
 build_of r = cond (within_sizes r.dom r.vcpu r.third) (Plan.Build (shape_of r)) (Plan.Refuse TooLarge)
 
 -- a call, if there is a host
-abbrev pub after_build : Bool → MaybeCall → Plan
-after_build built MaybeCall.None = Plan.Refuse BadScript
-after_build built (MaybeCall.Some c) = cond built (Plan.Call c) (Plan.Refuse BadScript)
+abbrev pub after_build : Bool → Option Call → Plan
+after_build built None = Plan.Refuse BadScript
+after_build built (Some c) = cond built (Plan.Call c) (Plan.Refuse BadScript)
 
 abbrev pub planned : Bool → Record → Plan
 planned built r = cond (eqb r.kind 0) (build_of r) (after_build built (call_of r))

@@ -1,9 +1,10 @@
 -- Which pCPU a change is about: the one that a run asks for, else the one that the vCPU is on. Assumes nothing.
-use Prim.Native.Nat.{ℕ, ◌%◌, ◌<◌}
+use Prim.Native.Nat.{ℕ, ◌%◌}
 use mathlib.Core.Bool.{Bool, true, false, cond}
 use mathlib.Core.Path.{◌≡◌, refl, ◌∙◌, ap}
 use native.Mathlib.Omega.{arith}
 use borrow.Author.Tests.{ltb-true}
+use Rattle.std.specs.Prelude.{Result, Ok, Err}
 use Rattle.masks.specs.Masks.{permits, clipped}
 use Rattle.system.specs.declared.RunState.{RunState}
 use Rattle.system.specs.declared.RunState.TheVariants.{Offline, Runnable, Running, Blocked}
@@ -14,35 +15,21 @@ use Rattle.system.specs.Reads.{vcpu_at}
 use Rattle.system.specs.Slots.{pcpus, Present}
 use Rattle.verdict.specs.Sound.{Sound}
 use Rattle.verdict.specs.OneViolation.{pcpu_index}
-use Rattle.verdict.proofs.Laws.{index_below}
 use Rattle.calls.specs.declared.Request.{Request}
 use Rattle.changes.specs.declared.Change.{Change}
-use Rattle.changes.specs.declared.Change.TheVariants.{Refuse, Write, Enter, Leave}
+use Rattle.changes.specs.declared.Change.TheVariants.{Write, Enter, Leave}
 use Rattle.changes.specs.Changes.{admitted, ran, preempted, blocked, woken, masked, offlined, reaches}
 use Rattle.sched.specs.Steps.{change_of}
 use Rattle.sched.specs.RequestInPlace.{pcpu_read}
 
--- ---- what is read is in the table
-
-pub pcpu-read-below : (q : Request) (x : VirtualCpu) → pcpu_read q x < 64
-pcpu-read-below Request.Admit x = index_below x.state
-pcpu-read-below (Request.Run p now) x = omega arith
-pcpu-read-below (Request.Preempt now) x = index_below x.state
-pcpu-read-below (Request.Block now) x = index_below x.state
-pcpu-read-below Request.Wake x = index_below x.state
-pcpu-read-below (Request.SetAffinity m) x = index_below x.state
-pcpu-read-below (Request.Offline now) x = index_below x.state
-
--- ---- and is what the change is about
-
 -- p is the pCPU of a change that has one
-abbrev pub About : Change → ℕ → Type 0
-About (Refuse a) p = Unit {0}
-About (Write v) p = Unit {0}
-About (Enter v q) p = p ≡ q
-About (Leave v q) p = p ≡ q
+abbrev pub About : Result Change Answer → ℕ → Type 0
+About (Err a) p = Unit {0}
+About (Ok (Write v)) p = Unit {0}
+About (Ok (Enter v q)) p = p ≡ q
+About (Ok (Leave v q)) p = p ≡ q
 
-about_if : (b : Bool) (c : Change) (a : Answer) (p : ℕ) → About c p → About (cond b c (Refuse a)) p
+about_if : (b : Bool) (c : Result Change Answer) (a : Answer) (p : ℕ) → About c p → About (cond b c (Err a)) p
 about_if true c a p h = h
 about_if false c a p h = tt
 
@@ -81,7 +68,7 @@ module _ (x : VirtualCpu) (p : ℕ) (on : (r : ℕ) → x.state ≡ Running r �
   masked_about : (m : ℕ) (st : RunState) → About (masked x m st) p
   masked_about m Offline = tt
   masked_about m Runnable = tt
-  masked_about m (Running r) = about_if (permits m r) (Write _) _ p tt
+  masked_about m (Running r) = about_if (permits m r) (Ok (Write _)) _ p tt
   masked_about m Blocked = tt
 
   offlined_about : (full now : ℕ) (st : RunState) → x.state ≡ st → About (offlined x full now st) p

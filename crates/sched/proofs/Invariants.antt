@@ -4,6 +4,8 @@ use mathlib.Core.Bool.{true}
 use mathlib.Core.Path.{◌≡◌, refl}
 use native.Mathlib.Nat.{le_trans}
 use native.Mathlib.Omega.{arith}
+use Rattle.std.specs.Prelude.{Result}
+use Rattle.system.specs.declared.Answer.{Answer}
 use Rattle.system.specs.declared.System.{System}
 use Rattle.system.specs.Answers.{SystemOutcome}
 use Rattle.system.specs.Writes.{Tables, SameShape, shape-refl, shape-trans, present-on}
@@ -22,14 +24,14 @@ use Rattle.sched.proofs.LegalRequests.{made_legal}
 -- ---- one change
 
 module _ {s : System} {i : ℕ} (t : Tables s) where
-  legal_shape : {c : Change} {r : SystemOutcome} → Legal s i c r → SameShape s r.system
+  legal_shape : {c : Result Change Answer} {r : SystemOutcome} → Legal s i c r → SameShape s r.system
   legal_shape (stays a) = shape-refl s
   legal_shape (keeps k w) = (w t).shape
   legal_shape (busy l e) = shape-refl s
   legal_shape (goes_on c o w) = (w t).shape
   legal_shape (goes_off now on k w) = (w t).shape
 
-  legal_sound : {c : Change} {r : SystemOutcome} → Sound s → Present s i → Legal s i c r → Sound r.system
+  legal_sound : {c : Result Change Answer} {r : SystemOutcome} → Sound s → Present s i → Legal s i c r → Sound r.system
   legal_sound S h (stays a) = S
   legal_sound S h (keeps k w) = sound-keep S (w t) k h
   legal_sound S h (busy l e) = S

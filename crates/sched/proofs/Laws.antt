@@ -3,9 +3,8 @@
 -- how a call can end: what holds of the system, and of every change that can be made to it, holds of what the call leaves; a
 -- request that passes every test is made
 pub use Rattle.sched.proofs.Cases.{requested_case, offline-all_case, requested-made}
--- a request is what its stores leave, by the records that it reads, which are in the tables; a refusal hands them back
-pub use Rattle.sched.proofs.About.{pcpu-read-below}
-pub use Rattle.sched.proofs.RequestInPlace.{requested-by-stores, effect_hands-back}
+-- a request is what its stores leave, by the records that it reads; a refusal hands them back
+pub use Rattle.sched.proofs.RequestInPlace.{by-stores, requested-by-stores, effect_hands-back}
 -- a system as built is sound
 pub use Rattle.sched.proofs.Fresh.{fresh-tables, fresh-vcpu, fresh-sound}
 -- what every call keeps: soundness and the shape; run times never fall

@@ -4,6 +4,7 @@ use mathlib.Core.Bool.{true, false}
 use mathlib.Core.Path.{◌≡◌, sym, ◌∙◌}
 use native.Mathlib.Omega.{arith}
 use native.Mathlib.Decide.{ℕ_discrete}
+use Rattle.std.specs.Prelude.{Result, Ok, Err}
 use Rattle.masks.specs.Masks.{permits}
 use Rattle.scans.specs.Booleans.{zero_one}
 use Rattle.system.specs.declared.RunState.{RunState}
@@ -20,7 +21,7 @@ use Rattle.system.specs.Writes.{Tables, Wrote, same-pcpus, present-back, present
 use Rattle.system.specs.Slots.{pcpus, slot, Present, slot_of}
 use Rattle.verdict.specs.Sound.{OnPcpu, Occupies, Sound}
 use Rattle.changes.specs.declared.Change.{Change}
-use Rattle.changes.specs.declared.Change.TheVariants.{Refuse, Write, Enter, Leave}
+use Rattle.changes.specs.declared.Change.TheVariants.{Write, Enter, Leave}
 use Rattle.sched.specs.Steps.{refused, done}
 use Rattle.sched.specs.CanRun.{CanRun}
 
@@ -46,14 +47,14 @@ pub record Opened (old new : VirtualCpu) (p : ℕ) : Type 0 where
   pub time : new.runtime ≡ old.runtime
 
 -- a change of the vCPU at slot i that keeps both records of who runs where in step, and what it leaves
-pub data Legal (s : System) (i : ℕ) : Change → SystemOutcome → Type 0 where
-  stays : (a : Answer) → Legal s i (Refuse a) (refused a s)
-  keeps : {v : VirtualCpu} {s' : System} → StaysPut (vcpu_at s i) v → (Tables s → Wrote s s' i v 0 (occupant_at s 0)) → Legal s i (Write v) (done s')
-  busy : {v : VirtualCpu} {p : ℕ} → p < pcpus s → is_idle (occupant_at s p) ≡ false → Legal s i (Enter v p) (refused PcpuBusy s)
+pub data Legal (s : System) (i : ℕ) : Result Change Answer → SystemOutcome → Type 0 where
+  stays : (a : Answer) → Legal s i (Err a) (refused a s)
+  keeps : {v : VirtualCpu} {s' : System} → StaysPut (vcpu_at s i) v → (Tables s → Wrote s s' i v 0 (occupant_at s 0)) → Legal s i (Ok (Write v)) (done s')
+  busy : {v : VirtualCpu} {p : ℕ} → p < pcpus s → is_idle (occupant_at s p) ≡ false → Legal s i (Ok (Enter v p)) (refused PcpuBusy s)
   goes_on : {v : VirtualCpu} {p : ℕ} {s' : System} → CanRun s i p → Opened (vcpu_at s i) v p
-      → (Tables s → Wrote s s' i v p (Vcpu (i / 8) (i % 8))) → Legal s i (Enter v p) (done s')
+      → (Tables s → Wrote s s' i v p (Vcpu (i / 8) (i % 8))) → Legal s i (Ok (Enter v p)) (done s')
   goes_off : {v : VirtualCpu} {p : ℕ} {s' : System} (now : ℕ) → state_at s i ≡ Running p → Closed (vcpu_at s i) v now
-      → (Tables s → Wrote s s' i v p Idle) → Legal s i (Leave v p) (done s')
+      → (Tables s → Wrote s s' i v p Idle) → Legal s i (Ok (Leave v p)) (done s')
 
 module _ {s s' : System} {i p : ℕ} {v : VirtualCpu} where
   -- a vCPU goes onto an idle pCPU

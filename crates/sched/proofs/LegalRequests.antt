@@ -4,6 +4,7 @@ use mathlib.Core.Bool.{Bool, true, false, cond}
 use mathlib.Core.Path.{◌≡◌, refl, sym, subst}
 use native.Mathlib.Omega.{arith}
 use borrow.Author.Tests.{ltb-true}
+use Rattle.std.specs.Prelude.{Result, Ok, Err}
 use Rattle.masks.specs.Masks.{permits, clipped}
 use Rattle.scans.specs.Booleans.{zero_one}
 use Rattle.system.specs.declared.RunState.{RunState}
@@ -21,7 +22,7 @@ use Rattle.verdict.specs.Sound.{Sound}
 use Rattle.changes.specs.Changes.{admitted, ran, preempted, blocked, woken, masked, offlined, reaches}
 use Rattle.calls.specs.declared.Request.{Request}
 use Rattle.changes.specs.declared.Change.{Change}
-use Rattle.changes.specs.declared.Change.TheVariants.{Refuse, Write, Enter, Leave}
+use Rattle.changes.specs.declared.Change.TheVariants.{Write, Enter, Leave}
 use Rattle.changes.specs.Records.{dispatched, left}
 use Rattle.sched.specs.Steps.{change_of, done, tested, applied, made}
 use Rattle.sched.specs.CanRun.{CanRun}
@@ -48,27 +49,27 @@ module _ (s : System) (i : ℕ) (S : Sound s) (h : Present s i) where
   at e n = subst NotRunning (sym e) n
 
   -- a change of it that is legal, with what it leaves
-  abbrev Fine : Change → Type 0
+  abbrev Fine : Result Change Answer → Type 0
   Fine c = Legal s i c (applied s i c)
 
-  refuses : (a : Answer) → Fine (Refuse a)
+  refuses : (a : Answer) → Fine (Err a)
   unfolding applied
   refuses a = stays a
 
-  writes : {v : VirtualCpu} → StaysPut old v → Fine (Write v)
+  writes : {v : VirtualCpu} → StaysPut old v → Fine (Ok (Write v))
   unfolding applied
   writes {v} k = keeps k (λ t. wrote-vcpu s i v 0 t (slot-below h))
 
-  enters : {v : VirtualCpu} {p : ℕ} → p < pcpus s → (is_idle (occupant_at s p) ≡ true → CanRun s i p) → Opened old v p → Fine (Enter v p)
+  enters : {v : VirtualCpu} {p : ℕ} → p < pcpus s → (is_idle (occupant_at s p) ≡ true → CanRun s i p) → Opened old v p → Fine (Ok (Enter v p))
   unfolding applied
   enters {v} {p} l f o = go (is_idle (occupant_at s p)) refl
     where
       go : (b : Bool) → is_idle (occupant_at s p) ≡ b
-          → Legal s i (Enter v p) (tested b PcpuBusy s (done (put_occupant (put_vcpu s i v) p (Vcpu (i / 8) (i % 8)))))
+          → Legal s i (Ok (Enter v p)) (tested b PcpuBusy s (done (put_occupant (put_vcpu s i v) p (Vcpu (i / 8) (i % 8)))))
       go true e = goes_on (f e) o (λ t. wrote-both s i v p _ t (slot-below h) (omega arith))
       go false e = busy l e
 
-  leaves : {v : VirtualCpu} {p : ℕ} (now : ℕ) → old.state ≡ Running p → Closed old v now → Fine (Leave v p)
+  leaves : {v : VirtualCpu} {p : ℕ} (now : ℕ) → old.state ≡ Running p → Closed old v now → Fine (Ok (Leave v p))
   unfolding applied
   leaves {v} {p} now e k =
       let o = S.runs i p h e in
@@ -105,7 +106,7 @@ module _ (s : System) (i : ℕ) (S : Sound s) (h : Present s i) where
   masked_legal m Runnable e = writes (idle-put _ _ (at e ready_nr) (at e ready_nr) refl)
   masked_legal m (Running p) e = go (permits m p) refl
     where
-      go : (t : Bool) → permits m p ≡ t → Fine (cond t (Write (with_mask old m)) (Refuse NotAffine))
+      go : (t : Bool) → permits m p ≡ t → Fine (cond t (Ok (Write (with_mask old m))) (Err NotAffine))
       go true a = writes {v = with_mask old m} (record { time = refl; was = λ q r. r; still = λ q r. r; affine = λ q r k. let x : p ≡ q = cc in cc })
       go false a = refuses _
   masked_legal m Blocked e = writes (idle-put _ _ (at e blocked_nr) (at e blocked_nr) refl)
@@ -122,7 +123,7 @@ module _ (s : System) (i : ℕ) (S : Sound s) (h : Present s i) where
   ran_legal p now l Offline e = refuses _
   ran_legal p now l Runnable e = go (permits old.affinity p) refl
     where
-      go : (t : Bool) → permits old.affinity p ≡ t → Fine (cond t (Enter (dispatched old p now) p) (Refuse NotAffine))
+      go : (t : Bool) → permits old.affinity p ≡ t → Fine (cond t (Ok (Enter (dispatched old p now) p)) (Err NotAffine))
       go true a =
           enters l (λ b. record { present = h; ready = e; exists = l; free = is-idle _ b; affine = a })
           (record { on = refl; affine = a; time = refl })

@@ -7,11 +7,13 @@ use native.Mathlib.Nat.{eq-or-lt_of_le}
 use native.Mathlib.Omega.{arith}
 use lib.Dec.{ltb}
 use borrow.Author.Tests.{ltb-true}
+use Rattle.std.specs.Prelude.{Result}
 use Rattle.system.specs.declared.RunState.{RunState}
 use Rattle.system.specs.declared.RunState.TheVariants.{Offline, Runnable, Running, Blocked}
 use Rattle.system.specs.declared.Occupant.TheVariants.{Idle}
 use Rattle.system.specs.declared.System.{System}
 use Rattle.system.specs.declared.VirtualCpu.{VirtualCpu}
+use Rattle.system.specs.declared.Answer.{Answer}
 use Rattle.system.specs.declared.Answer.TheVariants.{Done}
 use Rattle.system.specs.Answers.{told, SystemOutcome}
 use Rattle.system.specs.Reads.{vcpu_at, state_at, vcpu_count, full_affinity}
@@ -29,7 +31,7 @@ use Rattle.sched.proofs.LegalRequests.{made_legal}
 use Rattle.sched.proofs.OfflineAllLoop.{Turn, next-turn, turn-made, turn-present}
 
 -- a legal change leaves all other records as they are
-legal_there : {s : System} {i : ℕ} {c : Change} {r : SystemOutcome} → Tables s → Legal s i c r → (j : ℕ) → j ≢ i
+legal_there : {s : System} {i : ℕ} {c : Result Change Answer} {r : SystemOutcome} → Tables s → Legal s i c r → (j : ℕ) → j ≢ i
     → vcpu_at r.system j ≡ vcpu_at s j
 legal_there t (stays a) j n = refl
 legal_there t (keeps k w) j n = (w t).there j n

@@ -4,14 +4,10 @@ use mathlib.Core.Path.{◌≡◌, sym, ◌∙◌, ap}
 use native.Mathlib.Nat.{min-eq_left}
 use native.Mathlib.Omega.{arith}
 use lib.Dec.{ltb}
-use lib.ListN.{get_or}
 use borrow.Author.Tests.{ltb-true}
-use Rattle.system.specs.declared.VirtualCpu.{VirtualCpu}
 use Rattle.system.specs.declared.Occupant.TheVariants.{Vcpu}
-use Rattle.system.specs.declared.PhysicalCpu.{PhysicalCpu}
 use Rattle.system.specs.declared.System.{System}
 use Rattle.system.specs.declared.Answer.TheVariants.{BadDomain, BadVcpu, BadPcpu, Unsound}
-use Rattle.system.specs.Shape.{idle}
 use Rattle.system.specs.Reads.{vcpu_at}
 use Rattle.system.specs.Slots.{slot, slot_read, slot-who}
 use Rattle.verdict.specs.Sound.{sound_iff}
@@ -20,7 +16,7 @@ use Rattle.changes.specs.Changes.{changed, reaches}
 use Rattle.changes.proofs.Laws.{tested-hands-back, stored-hands-back}
 use Rattle.calls.specs.declared.Request.{Request}
 use Rattle.sched.specs.Steps.{change_of, made, requested}
-use Rattle.sched.specs.RequestInPlace.{pcpu_read, framed, effect_of, stores, RequestedByStores, EffectHandsBack}
+use Rattle.sched.specs.RequestInPlace.{pcpu_read, framed, effect_of, in_place, RequestedByStores, EffectHandsBack}
 use Rattle.sched.proofs.About.{read_about}
 use Rattle.sched.proofs.Stores.{stores-tested, stores-applied}
 
@@ -28,16 +24,11 @@ module _ (s : System) (d v : ℕ) (q : Request) where
   abbrev i : ℕ
   i = slot_read d v
 
-  abbrev x : VirtualCpu
-  x = vcpu_at s i
-
   abbrev p : ℕ
-  p = pcpu_read q x
+  p = pcpu_read q (vcpu_at s i)
 
-  abbrev c : PhysicalCpu
-  c = get_or s.pcpus p idle
-
-  by-stores : stores s i p (effect_of (framed s (invariants_hold s)) d v q x c) ≡ requested s d v q
+  -- in its own frame a request in place is the call
+  pub by-stores : in_place s (framed s (invariants_hold s)) d v q ≡ requested s d v q
   unfolding requested effect_of vcpu_at
   by-stores = stores-tested s i p (invariants_hold s) Unsound _ _ λ e.
       let S = (sound_iff s).0 e in

@@ -4,6 +4,8 @@ use mathlib.Core.Path.{◌≡◌, ap}
 use native.Mathlib.Omega.{arith}
 use native.Mathlib.Decide.{ℕ_discrete}
 use Rattle.system.specs.declared.VirtualCpu.{VirtualCpu}
+use Rattle.std.specs.Prelude.{Result}
+use Rattle.system.specs.declared.Answer.{Answer}
 use Rattle.system.specs.declared.Occupant.{Occupant}
 use Rattle.system.specs.declared.System.{System}
 use Rattle.system.specs.Answers.{SystemOutcome}
@@ -31,7 +33,7 @@ module _ {s : System} {i : ℕ} (t : Tables s) (w : (j : ℕ) → runtime_at s j
       word' j (yes e) = rw e (omega (arith, here))
       word' j (no n) = omega (arith, ap (λ (x : VirtualCpu). x.runtime) (k.there j n), w j)
 
-  pub grows : {c : Change} {r : SystemOutcome} → Legal s i c r → Grows s r.system
+  pub grows : {c : Result Change Answer} {r : SystemOutcome} → Legal s i c r → Grows s r.system
   grows (stays a) = same-times w
   grows (keeps k wr) = wrote-grows (wr t) (omega (arith, k.time)) (omega (arith, k.time, w i))
   grows (busy l e) = same-times w

@@ -9,6 +9,7 @@ use Rattle.system.specs.declared.Occupant.{Occupant}
 use Rattle.system.specs.declared.Occupant.TheVariants.{Vcpu}
 use Rattle.system.specs.declared.PhysicalCpu.{PhysicalCpu}
 use Rattle.system.specs.declared.System.{System}
+use Rattle.std.specs.Prelude.{Result, Ok, Err}
 use Rattle.system.specs.declared.Answer.{Answer}
 use Rattle.system.specs.declared.Answer.TheVariants.{PcpuBusy}
 use Rattle.system.specs.Answers.{SystemOutcome}
@@ -17,7 +18,7 @@ use Rattle.system.specs.Reads.{occupant_at, is_idle}
 use Rattle.system.specs.Writes.{put_vcpu, put_occupant}
 use Rattle.changes.specs.Changes.{kept, stored}
 use Rattle.changes.specs.declared.Change.{Change}
-use Rattle.changes.specs.declared.Change.TheVariants.{Refuse, Write, Enter, Leave}
+use Rattle.changes.specs.declared.Change.TheVariants.{Write, Enter, Leave}
 use Rattle.changes.specs.declared.After.{After}
 use Rattle.sched.specs.Steps.{applied, refused, tested}
 use Rattle.sched.specs.RequestInPlace.{stores}
@@ -43,9 +44,9 @@ module _ (s : System) (i p : ℕ) where
   stores-tested false a e r f = stores-kept a
 
   -- at any index p, if it is the change's where that has one: else it stores there what is there
-  pub stores-applied : (y : Change) → About y p → stores s i p (stored y who x c) ≡ applied s i y
+  pub stores-applied : (y : Result Change Answer) → About y p → stores s i p (stored y who x c) ≡ applied s i y
   unfolding applied put_vcpu put_occupant occupant_at
-  stores-applied (Refuse a) h = stores-kept a
-  stores-applied (Write v) h = rw (set-get_or s.pcpus p idle)
-  stores-applied (Enter v q) h = rw (sym h) (stores-tested (is_idle c.occupant) PcpuBusy _ _ (λ e. refl))
-  stores-applied (Leave v q) h = rw (sym h)
+  stores-applied (Err a) h = stores-kept a
+  stores-applied (Ok (Write v)) h = rw (set-get_or s.pcpus p idle)
+  stores-applied (Ok (Enter v q)) h = rw (sym h) (stores-tested (is_idle c.occupant) PcpuBusy _ _ (λ e. refl))
+  stores-applied (Ok (Leave v q)) h = rw (sym h)

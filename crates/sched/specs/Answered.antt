@@ -1,5 +1,5 @@
 -- Every call on every system, damaged or not: a listed number is told, and a refused call changes nothing. Assumes nothing.
-use Rattle.std.specs.Prelude.{ℕ, Bool, true, false, ◌≡◌, refl, ltb}
+use Rattle.std.specs.Prelude.{ℕ, Bool, true, false, ◌≡◌, refl, Result, Ok, Err, ltb}
 use Rattle.system.specs.declared.System.{System}
 use Rattle.system.specs.declared.Answer.{Answer}
 use Rattle.system.specs.declared.Answer.TheVariants.{Done, BadDomain, BadVcpu, BadPcpu, PcpuBusy, Unsound}
@@ -10,7 +10,7 @@ use Rattle.verdict.specs.Violations.{invariants_hold}
 use Rattle.changes.specs.Changes.{reaches}
 use Rattle.calls.specs.declared.Request.{Request}
 use Rattle.changes.specs.declared.Change.{Change}
-use Rattle.changes.specs.declared.Change.TheVariants.{Refuse, Write, Enter, Leave}
+use Rattle.changes.specs.declared.Change.TheVariants.{Write, Enter, Leave}
 use Rattle.sched.specs.Steps.{refused, applied, tested, requested, offline_first, offline_all}
 
 -- a listed answer is told, and a number other than 0 leaves the system as it was
@@ -29,12 +29,12 @@ tested-answered : (s : System) (b : Bool) (a : Answer) {r : SystemOutcome} → A
 tested-answered s true a h = h
 tested-answered s false a h = told-refused s a
 
-applied-answered : (s : System) (i : ℕ) (c : Change) → Answered s (applied s i c)
+applied-answered : (s : System) (i : ℕ) (c : Result Change Answer) → Answered s (applied s i c)
 unfolding applied
-applied-answered s i (Refuse a) = told-refused s a
-applied-answered s i (Write v) = told-done s _
-applied-answered s i (Enter v p) = tested-answered s (is_idle (occupant_at s p)) PcpuBusy (told-done s _)
-applied-answered s i (Leave v p) = told-done s _
+applied-answered s i (Err a) = told-refused s a
+applied-answered s i (Ok (Write v)) = told-done s _
+applied-answered s i (Ok (Enter v p)) = tested-answered s (is_idle (occupant_at s p)) PcpuBusy (told-done s _)
+applied-answered s i (Ok (Leave v p)) = told-done s _
 
 pub requested-answered : (s : System) (d v : ℕ) (q : Request) → Answered s (requested s d v q)
 unfolding requested

@@ -1,5 +1,5 @@
 -- A run is told 6 exactly if it passes the tests before that one and `affinity_permits` is false of its pCPU. Assumes nothing.
-use Rattle.std.specs.Prelude.{ℕ, ◌<◌, Bool, cond, ◌≡◌, ◌↔◌, ltb}
+use Rattle.std.specs.Prelude.{ℕ, ◌<◌, Bool, cond, ◌≡◌, ◌↔◌, Option, Some, Ok, Err, ltb}
 use Rattle.std.proofs.Math.Bool.{true, false}
 use Rattle.std.proofs.Math.Path.{refl, ap}
 use Rattle.std.proofs.Common.{sym, ◌∙◌}
@@ -12,15 +12,13 @@ use Rattle.system.specs.declared.VirtualCpu.{VirtualCpu}
 use Rattle.system.specs.declared.System.{System}
 use Rattle.system.specs.declared.Answer.{Answer}
 use Rattle.system.specs.declared.Answer.TheVariants.{BadDomain, BadVcpu, BadPcpu, NotAffine, Unsound}
-use Rattle.system.specs.declared.MaybeVcpu.{MaybeVcpu}
-use Rattle.system.specs.declared.MaybeState.{MaybeState}
 use Rattle.system.specs.Answers.{told, SystemOutcome}
 use Rattle.system.specs.Reads.{vcpu_at, occupant_at, is_idle, vcpu_of, state_in, state_of, permits_in, affinity_permits}
 use Rattle.system.specs.Slots.{domains, vcpus, pcpus, slot}
 use Rattle.verdict.specs.Violations.{invariants_hold}
 use Rattle.verdict.specs.Sound.{Sound, sound_iff}
 use Rattle.calls.specs.declared.Request.{Request}
-use Rattle.changes.specs.declared.Change.TheVariants.{Refuse, Enter}
+use Rattle.changes.specs.declared.Change.TheVariants.{Enter}
 use Rattle.changes.specs.Records.{dispatched}
 use Rattle.changes.specs.Changes.{ran}
 use Rattle.sched.specs.Steps.{tested, applied, made, requested, run}
@@ -30,19 +28,19 @@ pub record Barred (s : System) (d v p : ℕ) : Type 0 where
   pub pcpu : p < pcpus s
   pub domain : d < domains s
   pub vcpu : v < vcpus s
-  pub ready : state_of s d v ≡ MaybeState.Some Runnable
+  pub ready : state_of s d v ≡ Some Runnable
   pub barred : affinity_permits s d v p ≡ false
 
 module _ (s : System) (d v p now : ℕ) where
   abbrev vcpu : VirtualCpu
   vcpu = vcpu_at s (slot d v)
 
-  found : d < domains s → v < vcpus s → vcpu_of s d v ≡ MaybeVcpu.Some vcpu
+  found : d < domains s → v < vcpus s → vcpu_of s d v ≡ Some vcpu
   unfolding vcpu_of
   found l m = rw (lt-ltb d (domains s) l, lt-ltb v (vcpus s) m)
 
   permits-found : p < pcpus s → d < domains s → v < vcpus s → affinity_permits s d v p ≡ permits vcpu.affinity p
-  permits-found k l m = rw (lt-ltb p (pcpus s) k) (ap (λ (x : MaybeVcpu). permits_in x p) (found l m))
+  permits-found k l m = rw (lt-ltb p (pcpus s) k) (ap (λ (x : Option VirtualCpu). permits_in x p) (found l m))
 
   -- a test that is told otherwise has passed
   passed : (t : Bool) (a : Answer) (r : SystemOutcome) → (told a ≡ told NotAffine → ⊥) → (tested t a s r).number ≡ told NotAffine
@@ -51,7 +49,7 @@ module _ (s : System) (d v p now : ℕ) where
   passed false a r n e = absurd (n e)
 
   entering : (f : Bool) → is_idle (occupant_at s p) ≡ f
-      → (applied s (slot d v) (Enter (dispatched vcpu p now) p)).number ≡ told NotAffine → ⊥
+      → (applied s (slot d v) (Ok (Enter (dispatched vcpu p now) p))).number ≡ told NotAffine → ⊥
   unfolding applied
   entering true x e = let y = rw x at e in omega arith
   entering false x e = let y = rw x at e in omega arith
@@ -62,7 +60,7 @@ module _ (s : System) (d v p now : ℕ) where
   refused-ran Offline e = absurd (omega arith)
   refused-ran Runnable e = (refl, go (permits vcpu.affinity p) e)
     where
-      go : (m : Bool) → (applied s (slot d v) (cond m (Enter (dispatched vcpu p now) p) (Refuse NotAffine))).number ≡ told NotAffine
+      go : (m : Bool) → (applied s (slot d v) (cond m (Ok (Enter (dispatched vcpu p now) p)) (Err NotAffine))).number ≡ told NotAffine
           → m ≡ false
       go true x = absurd (entering (is_idle (occupant_at s p)) refl x)
       go false x = refl
@@ -95,13 +93,13 @@ module _ (s : System) (d v p now : ℕ) where
             pcpu = k;
             domain = l;
             vcpu = m;
-            ready = ap state_in (found l m) ∙ ap MaybeState.Some g.0;
+            ready = ap state_in (found l m) ∙ ap Some g.0;
             barred = permits-found k l m ∙ g.1;
           }
 
       back : Barred s d v p → (run s d v p now).number ≡ told NotAffine
       back B =
-          let e : MaybeState.Some vcpu.state ≡ MaybeState.Some Runnable = sym (ap state_in (found B.domain B.vcpu)) ∙ B.ready in
+          let e : Some vcpu.state ≡ Some Runnable = sym (ap state_in (found B.domain B.vcpu)) ∙ B.ready in
           let st : vcpu.state ≡ Runnable = cc in
           rw
           ((sound_iff s).1 S, lt-ltb p (pcpus s) B.pcpu, lt-ltb d (domains s) B.domain, lt-ltb v (vcpus s) B.vcpu)

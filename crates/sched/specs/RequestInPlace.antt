@@ -64,6 +64,14 @@ stores s i p r =
           };
     }
 
+-- a request of d/v in a frame: the records at the slot and at the pCPU that are read, stored as the request leaves them
+abbrev pub in_place : System → Frame → ℕ → ℕ → Request → SystemOutcome
+in_place s f d v q =
+    let i = slot_read d v in
+    let x = get_or s.vcpus i no_vcpu in
+    let p = pcpu_read q x in
+    stores s i p (effect_of f d v q x (get_or s.pcpus p idle))
+
 -- Two stores are the call, of every request and every system, damaged or not: the records at the slot and at the pCPU that are
 -- read, stored as the request leaves them. It is proved as `requested-by-stores`.
 abbrev pub RequestedByStores : Type 0

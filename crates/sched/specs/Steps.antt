@@ -1,5 +1,5 @@
 -- The transitions: what each call does to which vCPU, and what it is told.
-use Rattle.std.specs.Prelude.{ℕ, zero, suc, ◌/◌, ◌%◌, Bool, cond, ltb}
+use Rattle.std.specs.Prelude.{ℕ, zero, suc, ◌/◌, ◌%◌, Bool, cond, Result, Ok, Err, ltb}
 use Rattle.system.specs.declared.Occupant.TheVariants.{Idle, Vcpu}
 use Rattle.system.specs.declared.System.{System}
 use Rattle.system.specs.declared.Answer.{Answer}
@@ -11,7 +11,7 @@ use Rattle.system.specs.Slots.{domains, vcpus, pcpus, slot}
 use Rattle.verdict.specs.Violations.{invariants_hold}
 use Rattle.calls.specs.declared.Request.{Request}
 use Rattle.changes.specs.declared.Change.{Change}
-use Rattle.changes.specs.declared.Change.TheVariants.{Refuse, Write, Enter, Leave}
+use Rattle.changes.specs.declared.Change.TheVariants.{Write, Enter, Leave}
 use Rattle.changes.specs.Changes.{changed, reaches}
 
 -- a refused call leaves the system as it was
@@ -25,16 +25,16 @@ done s = record { number = told Done; system = s }
 abbrev pub tested : Bool → Answer → System → SystemOutcome → SystemOutcome
 tested b a s r = cond b r (refused a s)
 
--- a change of the vCPU at slot i, which is vCPU i % 8 of domain i / 8; it goes onto a pCPU only where nobody is
-unfoldable pub applied : System → ℕ → Change → SystemOutcome
-applied s i (Refuse a) = refused a s
-applied s i (Write v) = done (put_vcpu s i v)
-applied s i (Enter v p) =
+-- a change, or its refusal, of the vCPU at slot i, which is vCPU i % 8 of domain i / 8; it goes onto a pCPU only where nobody is
+unfoldable pub applied : System → ℕ → Result Change Answer → SystemOutcome
+applied s i (Err a) = refused a s
+applied s i (Ok (Write v)) = done (put_vcpu s i v)
+applied s i (Ok (Enter v p)) =
     tested (is_idle (occupant_at s p)) PcpuBusy s (done (put_occupant (put_vcpu s i v) p (Vcpu (i / 8) (i % 8))))
-applied s i (Leave v p) = done (put_occupant (put_vcpu s i v) p Idle)
+applied s i (Ok (Leave v p)) = done (put_occupant (put_vcpu s i v) p Idle)
 
 -- a request of the vCPU at slot i: the state and the mask are tested by its change, who holds the pCPU as the change is applied
-abbrev pub change_of : System → ℕ → Request → Change
+abbrev pub change_of : System → ℕ → Request → Result Change Answer
 change_of s i q = changed q s.pcpu_count (vcpu_at s i)
 
 abbrev pub made : System → ℕ → Request → SystemOutcome

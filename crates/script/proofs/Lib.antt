@@ -1,4 +1,3 @@
 pub mod Example
 pub mod Rows
-mod ReplayLoop
-mod InPlace
+mod Turn

@@ -1,4 +1,5 @@
 pub mod Script
+pub mod Frames
 pub mod NoCall
 pub mod InStretches
 pub mod NoCallLaws

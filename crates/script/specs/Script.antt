@@ -1,8 +1,6 @@
 -- A script: what each record is told, and the text that is written of it.
 use Rattle.std.specs.Prelude.{◌≡◌, ℕ, zero, suc, ◌+◌, ◌*◌, ◌/◌, ◌%◌, ◌^◌, ◌≤◌, min, Bool, true, false, cond, ◌&&◌, List, [], ◌++◌, length, drop}
-use Rattle.system.specs.declared.System.{System}
 use Rattle.system.specs.Answers.{told}
-use Rattle.policy.specs.declared.Scheduler.{Scheduler}
 use Rattle.host.specs.declared.Host.{Host}
 use Rattle.host.specs.Step.{step, fresh_host}
 use Rattle.host.specs.Outcomes.{HostOutcome, step_counted, built_host}
@@ -80,19 +78,14 @@ room false = answer_room
 abbrev pub taken : Bool → List ℕ → List ℕ → ℕ
 taken states bs out = min (records_in bs) (length out / room states)
 
--- what is handed back, by its parts
-abbrev pub host_with : System → Scheduler → Host
-host_with s π = record { system = s; scheduler = π }
-
+-- a script by its parts
 abbrev pub script_of : ℕ → Bool → Host → Script
 script_of number built h = record { number = number; built = built; host = h }
 
-abbrev pub taken_of : ℕ → Bool → Host → ℕ → ℕ → Taken
-taken_of number built h records written = record { script = script_of number built h; records = records; written = written }
-
--- what a replay of n records hands back, and what it leaves of the bytes that it writes over
-pub record Replayed (states : Bool) (c : Script) (bs : List ℕ) (n : ℕ) (before : List ℕ) (r : Taken) (out : List ℕ) : Type 0 where
-  pub script : r.script ≡ script_after c bs n
+-- what a replay of n records hands back, the script that it leaves, and what it leaves of the bytes that it writes over
+pub record Replayed (states : Bool) (c : Script) (bs : List ℕ) (n : ℕ) (before : List ℕ) (after : Script) (r : Taken) (out : List ℕ)
+    : Type 0 where
+  pub script : after ≡ script_after c bs n
   pub records : r.records ≡ n
   pub placed : Placed before 0 (text states c bs n) out r.written
   pub whole : r.written ≤ length out

@@ -3,23 +3,20 @@
 
 #![tactic(auto)]
 
-ghost use Rattle.std.specs.Prelude.{◌≡◌, ℕ, ◌+◌, ◌*◌, ◌/◌, ◌<◌, ◌≤◌, true, false, ◌&&◌, length, drop};
-ghost use Rattle.system.specs.Answers.{told};
-ghost use Rattle.verdict.specs.Violations.{invariants_hold};
-ghost use Rattle.sched.specs.RequestInPlace.{framed};
+ghost use Rattle.std.specs.Prelude.{◌≡◌, ℕ, ◌+◌, ◌*◌, ◌/◌, ◌<◌, ◌≤◌, true, false, length, drop};
+ghost use Rattle.host.specs.Step.{fresh_host};
 ghost use Rattle.host.specs.Outcomes.{host_outcome, built_host};
-ghost use Rattle.records.specs.Records.{plan_of};
-ghost use Rattle.text.specs.Lines.{answer_line, answer_room};
 ghost use Rattle.text.specs.Places.{Placed};
-ghost use Rattle.script.specs.Script.{begun, built_after, records_in, room, taken, host_with, taken_of, Replayed};
+ghost use Rattle.script.specs.Script.{begun, carried, built_after, script_next, entry, records_in, room, taken, Replayed};
+ghost use Rattle.script.specs.Frames.{IsFrameOf};
 ghost use Rattle.script.specs.NoCall.{is_no_call, no_call_at};
 
 use calls::Call;
 use host::{Host, Outcome};
-use policy::Scheduler;
+use policy::Account;
 use records::{Plan, Shape};
 use sched::Frame;
-use system::{Answer, System, least};
+use system::{Answer, PhysicalCpu, VirtualCpu};
 
 /// The most bytes that a record's text takes where the host is written too.
 pub const ENTRY_ROOM: usize = 28_700;
@@ -32,10 +29,9 @@ pub struct Script {
     pub host: Host,
 }
 
-/// How far a stretch of a script was taken: the script after it, its records, and the bytes written.
+/// How far a stretch of a script was taken: its records, and the bytes written.
 #[derive(Clone, Copy)]
 pub struct Taken {
-    pub script: Script,
     pub records: usize,
     pub written: usize,
 }
@@ -45,56 +41,82 @@ impl Script {
     pub fn new() -> Script
         ensures { result ≡ begun }
     {
-        let none = Host::new(0, 0, 0, 0);
-        let host = none.host;
         Script {
             number: 0,
             built: false,
-            host,
+            host: nothing(),
         }
     }
 }
 
+// The host of no domains, vCPUs and pCPUs.
+fn nothing() -> Host
+    ensures { result ≡ fresh_host 0 0 0 0 0 0 }
+{
+    Host::new(0, 0, 0, 0).unwrap()
+}
+
 // ---- one record
 
-fn built_of(shape: Shape) -> Outcome
-    ensures { host_outcome result ≡ built_host shape.num_domains shape.vcpus_per_domain shape.num_pcpus shape.quantum }
+// Builds a host in place of another; one above the sizes is refused, and leaves the host of nothing.
+fn build(host: &mut Host, shape: Shape) -> Outcome
+    ensures { host_outcome result host.new ≡ built_host shape.num_domains shape.vcpus_per_domain shape.num_pcpus shape.quantum }
 {
-    Host::new(
+    let built = Host::new(
         shape.num_domains,
         shape.vcpus_per_domain,
         shape.num_pcpus,
         shape.quantum,
-    )
+    );
+    let answer = match built {
+        Ok(h) => {
+            *host = h;
+            Answer::Done
+        }
+        Err(answer) => {
+            *host = nothing();
+            answer
+        }
+    };
+    Outcome { answer, count: 0 }
 }
 
-fn frame_of(s: System) -> Frame
-    ensures { result ≡ framed s (invariants_hold s) }
+// The frame of a host, its soundness found by a test. Read as slices the tables tell their lengths.
+fn frame_of(host: &Host) -> Frame
+    ensures { IsFrameOf host.now result }
 {
-    Frame {
-        sound: verdict::invariants_hold(s),
-        domain_count: s.domain_count,
-        vcpus_per_domain: s.vcpus_per_domain,
-        pcpu_count: s.pcpu_count,
-    }
+    let _vcpus: &[VirtualCpu] = &host.system.vcpus;
+    let _pcpus: &[PhysicalCpu] = &host.system.pcpus;
+    let _accounts: &[Account] = &host.scheduler.accounts;
+    sched::frame_of(&host.system)
+}
+
+// What a plan does to a host whose frame is known, and to the frame: a call leaves that as it was. So a request
+// is done in it, and the host is tested only where it is built.
+fn carry(host: &mut Host, frame: &mut Frame, plan: Plan) -> Outcome
+    requires { IsFrameOf host.old frame.old }
+    ensures carried { host_outcome result host.new ≡ carried host.old plan }
+    ensures framed { IsFrameOf host.new frame.new }
+{
+    let answer = match plan {
+        Plan::Refuse(answer) => answer,
+        Plan::Build(shape) => {
+            let told = build(host, shape);
+            *frame = frame_of(host);
+            return told;
+        }
+        Plan::Call(Call::Ask { dom, vcpu, request }) => {
+            sched::request_in_place(&mut host.system, *frame, dom, vcpu, request)
+        }
+        Plan::Call(call) => return host.step(call),
+    };
+    Outcome { answer, count: 0 }
 }
 
 fn built_after(built: bool, plan: Plan) -> bool
     ensures { result ≡ built_after built plan }
 {
-    match plan {
-        Plan::Refuse(_) => built,
-        Plan::Build(_) => true,
-        Plan::Call(_) => built,
-    }
-}
-
-fn put_answer(out: &mut [u8], at: usize, number: u64, answer: Answer, moves: usize) -> usize
-    requires { at + answer_room ≤ length out.old }
-    ensures placed { Placed out.old at (answer_line number (told answer) moves) out.new result }
-    ensures upper_bound { result ≤ at + answer_room }
-{
-    text::put_answer_line(out, at, number, system::number_of(answer), moves as u64)
+    built || matches!(plan, Plan::Build(_))
 }
 
 // ---- a stretch of a script
@@ -102,11 +124,7 @@ fn put_answer(out: &mut [u8], at: usize, number: u64, answer: Answer, moves: usi
 fn records_in(n: usize) -> usize
     ensures { result ≡ (n + 19) / 20 }
 {
-    if n % records::RECORD == 0 {
-        n / records::RECORD
-    } else {
-        n / records::RECORD + 1
-    }
+    n.div_ceil(records::RECORD)
 }
 
 fn room_of(states: bool) -> usize
@@ -119,126 +137,58 @@ fn room_of(states: bool) -> usize
     }
 }
 
-// Whether the host is written: where it is asked for and there is one.
-fn is_shown(states: bool, built: bool) -> bool
-    ensures { result ≡ states && built }
+// The bytes after the first n records.
+fn after(bytes: &[u8], n: usize) -> &[u8]
+    requires { n * 20 ≤ length bytes.now }
+    ensures { result.now ≡ drop (n * 20) bytes.now }
 {
-    if states { built } else { false }
+    &bytes[n * records::RECORD..]
 }
 
-fn plan_at(built: bool, bytes: &[u8], i: usize) -> Plan
-    requires { i * 20 < length bytes.now }
-    ensures { result ≡ plan_of built (drop (i * 20) bytes.now) }
-{
-    let from = i * records::RECORD;
-    records::plan_of(built, &bytes[from..])
-}
-
-fn taken_of(
-    number: u64,
-    built: bool,
-    s: System,
-    p: Scheduler,
-    records: usize,
-    written: usize,
-) -> Taken
-    ensures { result ≡ taken_of number built (host_with s p) records written }
-{
-    Taken {
-        script: Script {
-            number,
-            built,
-            host: Host {
-                system: s,
-                scheduler: p,
-            },
-        },
-        records,
-        written,
-    }
-}
-
-// The first n records. The host is stepped here, record by record in place: handed to a function of its
-// own it would be copied, and tested, for each. A call leaves its frame as it was.
-fn replay_in_place(script: Script, bytes: &[u8], out: &mut [u8], states: bool, n: usize) -> Taken
-    requires { n ≤ taken states bytes.now out.old }
-    ensures { Replayed states script bytes.now n out.old result out.new }
-{
-    let mut number = script.number;
-    let mut built = script.built;
-    let host = script.host;
-    let mut s = host.system;
-    let mut p = host.scheduler;
-    let mut frame = frame_of(s);
-    let mut written: usize = 0;
-    let mut i: usize = 0;
-    while i < n {
-        let plan = plan_at(built, bytes, i);
-        built = built_after(built, plan);
-        number = std::num::wrapping_add_u64(number, 1);
-        let mut answer = Answer::Done;
-        let mut moves: usize = 0;
-        match plan {
-            Plan::Refuse(refusal) => answer = refusal,
-            Plan::Build(shape) => {
-                let told = built_of(shape);
-                let host = told.host;
-                s = host.system;
-                p = host.scheduler;
-                answer = told.answer;
-                frame = frame_of(s);
-            }
-            Plan::Call(call) => match call {
-                Call::Ask { dom, vcpu, request } => {
-                    let slot = system::slot_read(dom, vcpu);
-                    let v = s.vcpus[slot];
-                    let pcpu = sched::pcpu_read(request, v);
-                    let cpu = s.pcpus[pcpu];
-                    let told = sched::effect_of(frame, dom, vcpu, request, v, cpu);
-                    let v_after = told.vcpu;
-                    let cpu_after = told.pcpu;
-                    s.vcpus[slot] = v_after;
-                    s.pcpus[pcpu] = cpu_after;
-                    answer = told.answer;
-                }
-                Call::OfflineAll { dom, now } => {
-                    let told = sched::offline_all(s, dom, now);
-                    s = told.system;
-                    answer = told.answer;
-                }
-                Call::SetWeight { dom, vcpu, weight } => {
-                    let domains = p.domain_count;
-                    let vcpus = p.vcpus_per_domain;
-                    let slot = system::slot_read(dom, vcpu);
-                    let a = p.accounts[slot];
-                    p.accounts[slot] = policy::weighed(domains, vcpus, dom, vcpu, weight, a);
-                }
-                Call::SetWakeBoost { enabled } => p = p.set_wake_boost(enabled),
-                Call::Advance { now } => {
-                    let told = advance::advance(s, p, now);
-                    s = told.system;
-                    p = told.scheduler;
-                    answer = told.answer;
-                    moves = told.count;
-                }
-            },
+impl Script {
+    // The record at the start of the bytes: what it says is done, and its line is put at index `at`, with the host
+    // where it is asked for and there is one. The answer is the index past that.
+    fn obey(
+        &mut self,
+        frame: &mut Frame,
+        bytes: &[u8],
+        out: &mut [u8],
+        at: usize,
+        states: bool,
+    ) -> usize
+        requires framed { IsFrameOf self.old.host frame.old }
+        requires fits { at + room states ≤ length out.old }
+        ensures next { self.new ≡ script_next self.old bytes.now }
+        ensures placed { Placed out.old at (entry states self.old bytes.now) out.new result }
+        ensures framed { IsFrameOf self.new.host frame.new }
+    {
+        let plan = records::plan_of(self.built, bytes);
+        let told = carry(&mut self.host, frame, plan);
+        self.number = self.number.wrapping_add(1);
+        self.built = built_after(self.built, plan);
+        let number = system::number_of(told.answer);
+        let past = text::put_answer_line(out, at, self.number, number, told.count as u64);
+        if states && self.built {
+            host_text::put_host(out, past, &self.host.system, &self.host.scheduler)
+        } else {
+            past
         }
-        written = put_answer(out, written, number, answer, moves);
-        if is_shown(states, built) {
-            written = host_text::put_host(out, written, s, p);
-        }
-        i += 1;
     }
-    taken_of(number, built, s, p, n, written)
-}
 
-/// Takes as many records as there are and as there is room for: 63 bytes for each, or 28,700 where
-/// the states are asked for.
-pub fn replay(script: Script, bytes: &[u8], out: &mut [u8], states: bool) -> Taken
-    ensures { Replayed states script bytes.now (taken states bytes.now out.old) out.old result out.new }
-{
-    let n = least(records_in(bytes.len()), out.len() / room_of(states));
-    replay_in_place(script, bytes, out, states, n)
+    /// Takes as many records as there are and as there is room for: 63 bytes for each, or 28,700 where
+    /// the states are asked for.
+    pub fn replay(&mut self, bytes: &[u8], out: &mut [u8], states: bool) -> Taken
+        ensures { Replayed states self.old bytes.now (taken states bytes.now out.old) out.old self.new result out.new }
+    {
+        let records = records_in(bytes.len()).min(out.len() / room_of(states));
+        // the host is tested once, for its frame, and not for each record
+        let mut frame = frame_of(&self.host);
+        let mut written = 0;
+        for i in 0..records {
+            written = self.obey(&mut frame, after(bytes, i), out, written, states);
+        }
+        Taken { records, written }
+    }
 }
 
 // ---- records that are no call
@@ -246,13 +196,7 @@ pub fn replay(script: Script, bytes: &[u8], out: &mut [u8], states: bool) -> Tak
 fn is_no_call(plan: Plan) -> bool
     ensures { result ≡ is_no_call plan }
 {
-    match plan {
-        Plan::Refuse(answer) => {
-            system::number_of(answer) == system::number_of(Answer::BadScript)
-        }
-        Plan::Build(_) => false,
-        Plan::Call(_) => false,
-    }
+    matches!(plan, Plan::Refuse(Answer::BadScript))
 }
 
 /// The first of these records that is told 9, counted from 0: it is of no kind, or cut off, or comes before any host is built. As
@@ -264,14 +208,12 @@ pub fn first_no_call(built: bool, bytes: &[u8]) -> usize
 {
     let n = records_in(bytes.len());
     let mut there = built;
-    let mut i: usize = 0;
-    while i < n {
-        let plan = plan_at(there, bytes, i);
+    for i in 0..n {
+        let plan = records::plan_of(there, after(bytes, i));
         if is_no_call(plan) {
             return i;
         }
         there = built_after(there, plan);
-        i += 1;
     }
     n
 }

@@ -1,4 +1,2 @@
-mod Arithmetic
-mod Saturation
-mod Order
 mod Examples
+pub mod Division

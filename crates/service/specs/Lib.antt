@@ -1,4 +1,3 @@
 pub mod Service
 pub mod Laws
-pub mod Columns
 pub mod Fractions

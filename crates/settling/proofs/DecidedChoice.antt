@@ -1,12 +1,12 @@
 -- A decision over the table of a system is the choice. Assumes nothing.
-use Prim.Native.Nat.{ℕ, ◌+◌, ◌-◌, ◌%◌, ◌<◌}
+use Prim.Native.Nat.{ℕ, ◌%◌, ◌<◌}
 use mathlib.Core.Bool.{Bool, true, false, cond, not, ◌&&◌, false≢true}
 use mathlib.Core.Path.{◌≡◌, refl, sym, ◌∙◌, ap}
 use mathlib.Core.List.{List}
 use mathlib.Core.Logic.{inl, inr}
 use native.Mathlib.Omega.{arith}
-use lib.Dec.{leb, eqb}
-use borrow.Author.Tests.{lt-ltb, le-leb, leb-true, eqb-true, ne_eqb}
+use lib.Dec.{leb}
+use borrow.Author.Tests.{lt-ltb}
 use Rattle.scans.specs.Booleans.{both}
 use Rattle.masks.specs.Sets.{set_of-permits}
 use Rattle.system.specs.declared.RunState.{RunState}
@@ -17,44 +17,47 @@ use Rattle.system.specs.Reads.{vcpu_at, idle_at}
 use Rattle.system.specs.Slots.{Present, slots, present, is-present}
 use Rattle.system.specs.States.{onto, is_runnable}
 use Rattle.verdict.specs.Sound.{Sound}
+use Rattle.moves.specs.declared.Standing.TheVariants.{Rests, Expired}
+use Rattle.moves.specs.declared.Row.{Row}
 use Rattle.moves.specs.Decide.{Standings, Involved}
-use Rattle.moves.specs.Table.{slot_kind, tabled}
+use Rattle.moves.specs.Table.{is_waiting, is_expired, expired_on, row_at, tabled}
 use Rattle.moves.proofs.Laws.{Alike, decide_cong}
 use Rattle.rules.specs.Rules.{Rule}
-use Rattle.rules.specs.Choices.{is_expired, standings, choice}
-use Rattle.settling.specs.Kinds.{kind_in}
+use Rattle.rules.specs.Choices as choices
+use Rattle.rules.specs.Choices.{standings, choice}
+use Rattle.settling.specs.Standings.{standing_in}
 use Rattle.settling.specs.IdleSet.{idle_set}
 use Rattle.settling.specs.TableOf.{TakesPart, TableOf}
 use Rattle.settling.specs.TableLaws.{DecidedChoice}
 
--- ---- a kind tells who waits and who is expired
+-- ---- a standing tells who waits and who is expired
 
-waits-by : (b x : Bool) (q e : ℕ) (st : RunState) → eqb (cond b (kind_in x q e st) 0) 1 ≡ (b && (is_runnable st && not x))
+waits-by : (b x : Bool) (q e : ℕ) (st : RunState) → is_waiting (cond b (standing_in x q e st) Rests) ≡ (b && (is_runnable st && not x))
 waits-by false x q e st = refl
 waits-by true x q e Offline = refl
 waits-by true false q e Runnable = refl
 waits-by true true q e Runnable = refl
 waits-by true x q e (Running p) = go (leb q e)
   where
-    go : (t : Bool) → eqb (cond t (p % 64 + 2) 0) 1 ≡ false
-    go true = ne_eqb (p % 64 + 2) 1 (λ e. omega arith)
+    go : (t : Bool) → is_waiting (cond t (Expired (p % 64)) Rests) ≡ false
+    go true = refl
     go false = refl
 waits-by true x q e Blocked = refl
 
-expired-by : (b x : Bool) (q e : ℕ) (st : RunState) → leb 2 (cond b (kind_in x q e st) 0) ≡ (b && is_expired q e st)
+expired-by : (b x : Bool) (q e : ℕ) (st : RunState) → is_expired (cond b (standing_in x q e st) Rests) ≡ (b && choices.is_expired q e st)
 expired-by false x q e st = refl
 expired-by true x q e Offline = refl
 expired-by true false q e Runnable = refl
 expired-by true true q e Runnable = refl
 expired-by true x q e (Running p) = go (leb q e)
   where
-    go : (t : Bool) → leb 2 (cond t (p % 64 + 2) 0) ≡ t
-    go true = le-leb 2 (p % 64 + 2) (omega arith)
+    go : (t : Bool) → is_expired (cond t (Expired (p % 64)) Rests) ≡ t
+    go true = refl
     go false = refl
 expired-by true x q e Blocked = refl
 
-on-by : (b x : Bool) (q e : ℕ) (st : RunState) → ((p : ℕ) → st ≡ Running p → p < 64) → (b && is_expired q e st) ≡ true
-    → cond b (kind_in x q e st) 0 - 2 ≡ onto st
+on-by : (b x : Bool) (q e : ℕ) (st : RunState) → ((p : ℕ) → st ≡ Running p → p < 64) → (b && choices.is_expired q e st) ≡ true
+    → expired_on (cond b (standing_in x q e st) Rests) ≡ onto st
 on-by false x q e st h y = absurd (false≢true y)
 on-by true x q e Offline h y = absurd (false≢true y)
 on-by true x q e Runnable h y = absurd (false≢true y)
@@ -63,30 +66,30 @@ on-by true x q e Blocked h y = absurd (false≢true y)
 
 -- ---- a decision over the rows is the choice
 
-module _ {s : System} {ρ : Rule} {now : ℕ} {t : List ℕ} (S : Sound s) (T : TableOf s ρ now t (slots s)) where
+module _ {s : System} {ρ : Rule} {now : ℕ} {t : List Row} (S : Sound s) (T : TableOf s ρ now t (slots s)) where
   abbrev told : Standings
   told = tabled t (idle_set s)
 
   -- who waits or is expired takes part
-  waits-part : (i : ℕ) → told.waits i ≡ true → TakesPart t i
+  waits-part : (i : ℕ) → told.waits i ≡ true → TakesPart (row_at t i)
   unfolding tabled
-  waits-part i w z = omega (arith, eqb-true (slot_kind t i) 1 w)
+  waits-part i w z = false≢true (sym (ap is_waiting z) ∙ w)
 
-  involved_part : (i : ℕ) → Involved told i → TakesPart t i
+  involved_part : (i : ℕ) → Involved told i → TakesPart (row_at t i)
   unfolding tabled
   involved_part i (inl w) = waits-part i w
-  involved_part i (inr h) = λ z. omega (arith, leb-true 2 (slot_kind t i) h)
+  involved_part i (inr h) = λ z. false≢true (sym (ap is_expired z) ∙ h)
 
   waits-same : (i : ℕ) → i < slots s → told.waits i ≡ (standings s ρ now).waits i
   unfolding tabled standings
   waits-same i l =
-      ap (λ (k : ℕ). eqb k 1) (T.rows i l).kind
+      ap is_waiting (T.rows i l).standing
       ∙ waits-by (present s i) (ρ.barred s now i) ρ.slice (elapsed (vcpu_at s i) now) (vcpu_at s i).state
 
   expired-same : (i : ℕ) → i < slots s → told.expired i ≡ (standings s ρ now).expired i
   unfolding tabled standings
   expired-same i l =
-      ap (leb 2) (T.rows i l).kind
+      ap is_expired (T.rows i l).standing
       ∙ expired-by (present s i) (ρ.barred s now i) ρ.slice (elapsed (vcpu_at s i) now) (vcpu_at s i).state
 
   -- an expired slot runs on a pCPU of the system
@@ -95,7 +98,7 @@ module _ {s : System} {ρ : Rule} {now : ℕ} {t : List ℕ} (S : Sound s) (T : 
   on_same i l h =
       let x = sym (expired-same i l) ∙ h in
       let here : Present s i = is-present s i l (both _ _ x).0 in
-      ap (λ (k : ℕ). k - 2) (T.rows i l).kind
+      ap expired_on (T.rows i l).standing
       ∙ on-by (present s i) (ρ.barred s now i) ρ.slice (elapsed (vcpu_at s i) now) (vcpu_at s i).state
       (λ p e. let o = S.runs i p here e in omega (arith, o.exists)) x
 

@@ -1,19 +1,22 @@
 -- Settling over the table of a system is settling of the system, by induction on the most moves: both decide alike, and what a move leaves
 -- of the table is the table of what it leaves of the system. Assumes nothing.
-use Prim.Native.Nat.{ℕ, zero, suc, ◌+◌, ◌%◌}
+use Prim.Native.Nat.{ℕ, zero, suc, ◌%◌}
+use mathlib.Core.Bool.{true, false≢true}
 use mathlib.Core.Path.{◌≡◌, refl, sym, ◌∙◌, ap, ap₂}
 use mathlib.Core.List.{List, [], ◌∷◌}
 use native.Mathlib.Omega.{arith}
-use borrow.Author.Tests.{leb-true}
 use Rattle.system.specs.declared.System.{System}
 use Rattle.system.specs.Writes.{Tables}
 use Rattle.system.specs.Slots.{slots}
 use Rattle.verdict.specs.Sound.{Sound}
 use Rattle.moves.specs.declared.Choice.{Choice}
 use Rattle.moves.specs.declared.Choice.TheVariants.{Run, Preempt, Rest}
+use Rattle.moves.specs.declared.Standing.{Standing}
+use Rattle.moves.specs.declared.Standing.TheVariants.{Rests, Waits, Expired}
+use Rattle.moves.specs.declared.Row.{Row}
 use Rattle.moves.specs.Decide.{decide}
 use Rattle.moves.specs.DecideLaws.{preempt-beaten}
-use Rattle.moves.specs.Table.{slot_kind, tabled}
+use Rattle.moves.specs.Table.{is_expired, expired_on, row_at, tabled}
 use Rattle.moves.specs.TableWrites.{dispatched_in, left_in}
 use Rattle.moves.specs.Settling.{and_after, settled}
 use Rattle.rules.specs.Rules.{Rule}
@@ -28,12 +31,17 @@ use Rattle.settling.proofs.DecidedChoice.{decided-choice}
 use Rattle.settling.proofs.OneMove.{can-moves, run-idle, preempt-idle}
 use Rattle.settling.proofs.TableFollows.{same-slots, follows-run, follows-preempt}
 
+expired-is : (st : Standing) → is_expired st ≡ true → st ≡ Expired (expired_on st)
+expired-is Rests e = absurd (false≢true e)
+expired-is Waits e = absurd (false≢true e)
+expired-is (Expired p) e = refl
+
 -- whom a decision preempts, the table has on that pCPU
-preempts-kind : (t : List ℕ) (idle n i p : ℕ) → decide (tabled t idle) n ≡ Preempt i p → slot_kind t i ≡ p + 2
+preempts-there : (t : List Row) (idle n i p : ℕ) → decide (tabled t idle) n ≡ Preempt i p → (row_at t i).standing ≡ Expired p
 unfolding tabled
-preempts-kind t idle n i p e =
+preempts-there t idle n i p e =
     let b = preempt-beaten (tabled t idle) n i p e in
-    omega (arith, b.on, leb-true 2 (slot_kind t i) b.expired)
+    expired-is (row_at t i).standing b.expired ∙ ap Expired b.on
 
 pub settled-moves : SettledMoves
 unfolding settled settle
@@ -46,7 +54,7 @@ settled-moves ρ St now (suc k) s t G =
     decides = decided-choice s ρ now t G.sound G.table
 
     go : (c : Choice) → choice s ρ now ≡ c
-        → ((u : System) (v : List ℕ) → Settleable u ρ now v → settled ρ.slice (slots u) k v (idle_set u) ≡ (settle ρ now k u).moves)
+        → ((u : System) (v : List Row) → Settleable u ρ now v → settled ρ.slice (slots u) k v (idle_set u) ≡ (settle ρ now k u).moves)
         → and_after (λ u rest. settled ρ.slice (slots s) k u rest) ρ.slice t (idle_set s) c
         ≡ (go_on (λ u. settle ρ now k u) s now c).moves
     go (Run i p) e ih =
@@ -60,10 +68,10 @@ settled-moves ρ St now (suc k) s t G =
     go (Preempt i p) e ih =
         let c = choice-preempt s ρ now i p e in
         let M = can-moves now G.tables G.sound (preempt c.present c.on) in
-        let d = preempts-kind t (idle_set s) (slots s) i p (decides ∙ e) in
+        let d = preempts-there t (idle_set s) (slots s) i p (decides ∙ e) in
         let l : p % 64 ≡ p = omega (arith, M.pcpu) in
         ap₂ (λ (q : ℕ) (ms : List Choice). Preempt i q ∷ ms) l
-        (ap₂ (λ (n x : ℕ). settled ρ.slice n k (left_in t i p) x) (sym (same-slots St G M (G.unbarred i p c.present c.on)))
+        (ap₂ (λ (n x : ℕ). settled ρ.slice n k (left_in t i) x) (sym (same-slots St G M (G.unbarred i p c.present c.on)))
         (preempt-idle G.tables M)
         ∙ ih _ _ (follows-preempt St G c.present c.on d)
         ∙ ap (λ (u : System). (settle ρ now k u).moves) (sym M.enacts))

@@ -1,4 +1,4 @@
-pub mod Kinds
+pub mod Standings
 pub mod IdleSet
 pub mod AfterMoves
 pub mod TableOf

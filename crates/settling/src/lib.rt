@@ -1,4 +1,4 @@
-//! Between a system and the table that `moves` settles over: a vCPU's kind and row, the set of idle
+//! Between a system and the table that `moves` settles over: a vCPU's standing and row, the set of idle
 //! pCPUs, and what a move leaves of the system. It knows no rule: whether a slot is barred, its weight
 //! and its service are handed to it.
 
@@ -7,67 +7,66 @@
 ghost use Rattle.std.specs.Prelude.{◌≡◌, ◌+◌, ◌*◌, min};
 ghost use Rattle.masks.specs.Sets.{set_of};
 ghost use Rattle.rules.specs.Settle.{slot_in, onto_in};
-ghost use Rattle.settling.specs.Kinds.{kind_of};
+ghost use Rattle.settling.specs.Standings.{standing_of};
 ghost use Rattle.settling.specs.IdleSet.{idle_in};
 ghost use Rattle.settling.specs.AfterMoves.{record_after, occupant_after};
 ghost use Rattle.settling.specs.TableOf.{row_of};
 
-use moves::{Choice, Row};
+use moves::{Choice, Row, Standing};
 use service::Service;
-use system::{Occupant, PhysicalCpu, RunState, Ticks, VirtualCpu, is_idle, least};
+use system::{Occupant, PhysicalCpu, RunState, Ticks, VirtualCpu};
 
 // ---- the table
 
-/// 1 for a vCPU that waits and is not barred, p + 2 for one that has held pCPU p for the slice, 0 for any other.
-pub fn kind_of(v: VirtualCpu, present: bool, barred: bool, slice: Ticks, now: Ticks) -> u32
-    ensures { result ≡ kind_of present barred slice now v }
+/// A vCPU waits that is not barred; one is expired that has held its pCPU for the slice; any other rests.
+pub fn standing_of(
+    v: &VirtualCpu,
+    present: bool,
+    barred: bool,
+    slice: Ticks,
+    now: Ticks,
+) -> Standing
+    ensures { result ≡ standing_of present barred slice now v.now }
 {
-    let state = v.state;
-    if !present {
-        return 0;
-    }
-    match state {
-        RunState::Offline => 0,
-        RunState::Runnable => { if barred { 0 } else { 1 } }
-        RunState::Running { pcpu } => {
-            if slice <= system::elapsed(v, now) {
-                // % 64 keeps the sum in range without a precondition.
-                pcpu % 64 + 2
-            } else {
-                0
-            }
+    match v.state {
+        RunState::Runnable if present && !barred => Standing::Waits,
+        // % 64 keeps the pCPU in range without a precondition.
+        RunState::Running { pcpu } if present && slice <= v.elapsed(now) => {
+            Standing::Expired { pcpu: pcpu % 64 }
         }
-        RunState::Blocked => 0,
+        _ => Standing::Rests,
     }
 }
 
-/// What a decision goes by, of a vCPU.
-pub fn row_of(kind: u32, weight: u32, service: Service, v: VirtualCpu) -> Row
-    ensures { result ≡ row_of kind weight service v }
+/// What a decision goes by, of a vCPU; `leaving` is its service once it has left, read where it may be preempted.
+pub fn row_of(
+    standing: Standing,
+    weight: u32,
+    service: Service,
+    leaving: Service,
+    v: &VirtualCpu,
+) -> Row
+    ensures { result ≡ row_of standing weight service leaving v.now }
 {
     Row {
-        kind,
-        weight,
+        standing,
         mask: v.affinity,
         service,
+        weight,
         last: v.last,
+        leaving,
     }
 }
 
-/// The set of idle pCPUs, of a table and a count: the whole system would be copied.
-pub fn idle_set(pcpus: [PhysicalCpu; 64], pcpu_count: usize) -> u64
-    ensures { result ≡ set_of (idle_in pcpus pcpu_count) 64 }
+/// The set of idle pCPUs, of a table and a count.
+pub fn idle_set(pcpus: &[PhysicalCpu; 64], pcpu_count: usize) -> u64
+    ensures { result ≡ set_of (idle_in pcpus.now pcpu_count) 64 }
 {
-    let n = least(pcpu_count, system::MAX_PCPUS);
     let mut set: u64 = 0;
-    let mut q: usize = 0;
-    while q < n {
-        let c = pcpus[q];
-        let o = c.occupant;
-        if is_idle(o) {
-            set = set + masks::pcpu_bit(q as u32);
+    for q in 0..pcpu_count.min(system::MAX_PCPUS) {
+        if pcpus[q].occupant.is_idle() {
+            set += masks::pcpu_bit(q as u32);
         }
-        q += 1;
     }
     set
 }
@@ -76,9 +75,9 @@ pub fn idle_set(pcpus: [PhysicalCpu; 64], pcpu_count: usize) -> u64
 pub fn most_moves(domain_count: usize, vcpus_per_domain: usize, pcpu_count: usize) -> usize
     ensures { result ≡ min domain_count 16 * min vcpus_per_domain 8 + 2 * min pcpu_count 64 + 1 }
 {
-    let d = least(domain_count, system::MAX_DOMAINS);
-    let v = least(vcpus_per_domain, system::MAX_VCPUS);
-    let p = least(pcpu_count, system::MAX_PCPUS);
+    let d = domain_count.min(system::MAX_DOMAINS);
+    let v = vcpus_per_domain.min(system::MAX_VCPUS);
+    let p = pcpu_count.min(system::MAX_PCPUS);
     d * v + 2 * p + 1
 }
 
@@ -89,8 +88,7 @@ pub fn slot_in(c: Choice) -> usize
     ensures { result ≡ slot_in c }
 {
     match c {
-        Choice::Run { at, pcpu: _ } => at,
-        Choice::Preempt { at, pcpu: _ } => at,
+        Choice::Run { at, .. } | Choice::Preempt { at, .. } => at,
         Choice::Rest => 0,
     }
 }
@@ -100,8 +98,7 @@ pub fn onto_in(c: Choice) -> u32
     ensures { result ≡ onto_in c }
 {
     match c {
-        Choice::Run { at: _, pcpu } => pcpu,
-        Choice::Preempt { at: _, pcpu } => pcpu,
+        Choice::Run { pcpu, .. } | Choice::Preempt { pcpu, .. } => pcpu,
         Choice::Rest => 0,
     }
 }
@@ -111,8 +108,8 @@ pub fn record_after(c: Choice, v: VirtualCpu, now: Ticks) -> VirtualCpu
     ensures { result ≡ record_after c v now }
 {
     match c {
-        Choice::Run { at: _, pcpu } => changes::dispatched(v, pcpu, now),
-        Choice::Preempt { at: _, pcpu: _ } => changes::left(v, RunState::Runnable, now),
+        Choice::Run { pcpu, .. } => changes::dispatched(v, pcpu, now),
+        Choice::Preempt { .. } => changes::left(v, RunState::Runnable, now),
         Choice::Rest => v,
     }
 }
@@ -123,11 +120,10 @@ pub fn occupant_after(c: Choice) -> Occupant
 {
     match c {
         // % 16 keeps the cast in range without a precondition.
-        Choice::Run { at, pcpu: _ } => Occupant::Vcpu {
+        Choice::Run { at, .. } => Occupant::Vcpu {
             dom: (at / 8 % 16) as u16,
             vcpu: (at % 8) as u32,
         },
-        Choice::Preempt { at: _, pcpu: _ } => Occupant::Idle,
-        Choice::Rest => Occupant::Idle,
+        Choice::Preempt { .. } | Choice::Rest => Occupant::Idle,
     }
 }

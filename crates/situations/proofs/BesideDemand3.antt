@@ -12,14 +12,13 @@ use Rattle.system.specs.declared.RunState.TheVariants.{Offline, Running}
 use Rattle.system.specs.declared.System.{System}
 use Rattle.system.specs.Reads.{state_at, last_at}
 use Rattle.scans.specs.Scan.{scan}
-use Rattle.moves.specs.declared.Choice.{Choice}
 use Rattle.policy.specs.declared.Scheduler.{Scheduler}
 use Rattle.policy.specs.Standing.{weight_at, service_at, deserves}
 use Rattle.calls.specs.declared.Call.{Call}
 use Rattle.calls.specs.Asked as call
 use Rattle.host.specs.Step.{step}
 use Rattle.demand3.specs.Dated.{Dated, onto, dated}
-use Rattle.demand3.specs.Book.{Book, Shape, Entry, blank_book, closed, holder, unwritten, moved_all, enter}
+use Rattle.demand3.specs.Book.{Book, Shape, Entry, blank_book, closed, holder, unwritten, enter}
 use Rattle.demand3.specs.ServiceMachine.{service_machine}
 use Rattle.demand3.specs.Lists.{AllTyped, after_all, book_after, Clock, clock_of, Forward}
 use Rattle.demand3.specs.Lists as lists
@@ -30,7 +29,7 @@ use Rattle.demand3.specs.Weights.{weight_through}
 use Rattle.demand3.specs.Unset as unset
 use Rattle.demand3.specs.Uncut.{Uncut}
 use Rattle.demand3.specs.Demand3.{Demand-3}
-use Rattle.demand3.proofs.Laws.{demand_3, uncut, unset-ranks, last-kept, moves-tell}
+use Rattle.demand3.proofs.Laws.{demand_3, uncut, unset-ranks, last-kept, moves-tell, moved-done}
 use Rattle.situations.proofs.Extremes.{last-vcpu, largest-shape, largest-host}
 use Rattle.situations.proofs.LargestHost.{present}
 
@@ -123,12 +122,6 @@ outside-there q cs = (
 
 abbrev forward : ℕ → ℕ → ℕ → List Call
 forward t₁ t₂ t₃ = call.admit 15 7 ∷ call.run 15 7 63 t₁ ∷ call.preempt 15 7 t₂ ∷ call.run 15 7 64 0 ∷ Call.Advance t₃ ∷ []
-
--- an advance refuses nothing
-moved-done : (b : Book) (now : ℕ) (ms : List Choice) → (moved_all b now ms).number ≡ 0
-unfolding moved_all
-moved-done b now [] = refl
-moved-done b now (m ∷ ms) = refl
 
 module _ (e u q t₁ t₂ t₃ : ℕ) (l : t₁ ≤ t₂) (m : t₂ ≤ t₃) (n : t₃ < 2 ^ 64) where
   abbrev fresh : Fresh

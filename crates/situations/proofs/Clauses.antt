@@ -1,5 +1,6 @@
 -- Each clause of demand 3 at the figures of one list, worked out by hand: a clause that said less would not give
 -- them. Assumes nothing.
+use Rattle.std.specs.Prelude.{Some}
 use Prim.Native.Nat.{◌+◌, ◌-◌, ◌*◌, ◌≤◌, ◌<◌}
 use mathlib.Core.Bool.{true}
 use mathlib.Core.Path.{◌≡◌, refl, sym}
@@ -11,7 +12,6 @@ use Rattle.masks.specs.Masks.{permits}
 use Rattle.system.specs.declared.RunState.TheVariants.{Runnable}
 use Rattle.system.specs.declared.System.{System}
 use Rattle.system.specs.declared.Answer.TheVariants.{PcpuBusy}
-use Rattle.system.specs.declared.MaybeU64.{MaybeU64}
 use Rattle.system.specs.Answers.{told}
 use Rattle.system.specs.Reads.{vcpu_at, runtime_of, on_cpu_since, affinity_permits}
 use Rattle.moves.specs.declared.Choice.{Choice}
@@ -99,7 +99,7 @@ returned : AfterAdvance k moves b
 returned = (holds start _ refl).advance (omega arith) 10
 
 -- the system and its reads
-pub system-figures : ((vcpu_at s 0).runtime ≡ 10) × (runtime_of s 0 0 ≡ MaybeU64.Some 10) × (on_cpu_since s 0 1 ≡ MaybeU64.Some 10)
+pub system-figures : ((vcpu_at s 0).runtime ≡ 10) × (runtime_of s 0 0 ≡ Some 10) × (on_cpu_since s 0 1 ≡ Some 10)
     × (affinity_permits s 0 1 0 ≡ true) × ((b 1).mask < 2)
 unfolding computing after_all book_after enter moved_all holder
 system-figures =

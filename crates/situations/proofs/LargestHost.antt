@@ -1,5 +1,6 @@
 -- Each clause of demand 3 that is of every list, on the largest host, 16 × 8 on 64, at every point of a list of every
 -- call. It is written out with the numbers themselves: a clause that said less would not give it. Assumes nothing.
+use Rattle.std.specs.Prelude.{None, Some}
 use Prim.Native.Nat.{ℕ, ◌+◌, ◌-◌, ◌*◌, ◌^◌, ◌≤◌, ◌<◌}
 use mathlib.Core.Bool.{true, false, cond, ◌&&◌}
 use mathlib.Core.Path.{◌≡◌, refl}
@@ -13,15 +14,11 @@ use Rattle.system.specs.declared.RunState.TheVariants.{Runnable, Running}
 use Rattle.system.specs.declared.VirtualCpu.{VirtualCpu}
 use Rattle.system.specs.declared.Occupant.TheVariants.{Idle}
 use Rattle.system.specs.declared.System.{System}
-use Rattle.system.specs.declared.MaybeVcpu.{MaybeVcpu}
-use Rattle.system.specs.declared.MaybeState.{MaybeState}
-use Rattle.system.specs.declared.MaybeU64.{MaybeU64}
 use Rattle.system.specs.States.{while_running}
 use Rattle.system.specs.Slots.{domains, pcpus}
 use Rattle.system.specs.Reads.{vcpu_at, occupant_at, vcpu_of, state_of, is_running, runtime_of, on_cpu_since, affinity_of}
 use Rattle.system.specs.Reads.{affinity_permits}
 use Rattle.system.specs.Reads.{occupant_of, vcpu_count, full_affinity, busy_pcpus, count}
-use Rattle.verdict.specs.declared.Violation.TheVariants.{None}
 use Rattle.verdict.specs.Violations.{first_violation}
 use Rattle.scans.specs.Scan.{nobody, some}
 use Rattle.policy.specs.Accounts.{weight_of}
@@ -98,19 +95,19 @@ module _ (e u q : ℕ) where
       r : ReadsLine s d v 64 here
       r = reads.line d v l m
 
-      pub record_read : (a : VirtualCpu) × (vcpu_of s d v ≡ MaybeVcpu.Some a) × (here.state ≡ a.state) × (here.time ≡ a.runtime)
+      pub record_read : (a : VirtualCpu) × (vcpu_of s d v ≡ Some a) × (here.state ≡ a.state) × (here.time ≡ a.runtime)
           × (here.mask ≡ a.affinity) × ((p : ℕ) → a.state ≡ Running p → here.clock ≡ a.dispatched_at)
       record_read = let y = r.says in (r.read, r.vcpu, y.state, y.time, y.mask, y.clock)
 
-      pub parts-read : (state_of s d v ≡ MaybeState.Some here.state) × (is_running s d v ≡ while_running here.state (λ p. true) false)
-          × (runtime_of s d v ≡ MaybeU64.Some here.time) × (affinity_of s d v ≡ MaybeU64.Some here.mask)
-          × (on_cpu_since s d v ≡ while_running here.state (λ p. MaybeU64.Some here.clock) MaybeU64.None)
+      pub parts-read : (state_of s d v ≡ Some here.state) × (is_running s d v ≡ while_running here.state (λ p. true) false)
+          × (runtime_of s d v ≡ Some here.time) × (affinity_of s d v ≡ Some here.mask)
+          × (on_cpu_since s d v ≡ while_running here.state (λ p. Some here.clock) None)
           × ((p : ℕ) → affinity_permits s d v p ≡ (ltb p 64 && bit here.mask p))
       parts-read = (r.state, r.running, r.runtime, r.affinity, r.since, r.permits)
 
     pub absent-read : (d v : ℕ) → (16 ≤ d) ⊎ (8 ≤ v)
-        → (vcpu_of s d v ≡ MaybeVcpu.None) × (state_of s d v ≡ MaybeState.None) × (is_running s d v ≡ false)
-        × (runtime_of s d v ≡ MaybeU64.None) × (on_cpu_since s d v ≡ MaybeU64.None) × (affinity_of s d v ≡ MaybeU64.None)
+        → (vcpu_of s d v ≡ None) × (state_of s d v ≡ None) × (is_running s d v ≡ false)
+        × (runtime_of s d v ≡ None) × (on_cpu_since s d v ≡ None) × (affinity_of s d v ≡ None)
         × ((p : ℕ) → affinity_permits s d v p ≡ false)
     absent-read d v l =
         let a = reads.absent d v l in (a.vcpu, a.state, a.running, a.runtime, a.since, a.affinity, a.permits)

@@ -1,56 +1,41 @@
-//! Standard input and output, as programs use them: a read that fails is told from the end of the input, and what standard
-//! output does not take is said on standard error.
+//! Standard input and output and the arguments, as programs use them: a read that fails is told from the end of the input, and
+//! what standard output does not take is said on standard error.
 
 #![tactic(auto)]
 
-ghost use Rattle.std.specs.Prelude.{◌+◌, ◌≤◌, length};
+ghost use Rattle.std.specs.Prelude.{◌≤◌};
 ghost use Rattle.io.specs.Counts.{IsPrefixLen};
 
-use std::io::{Print, Read};
+pub mod arguments;
 
-/// How many bytes were read, and whether a read failed after them.
-#[derive(Clone, Copy)]
+use std::io::{self, Print, Read};
+
+/// How many bytes were read, and the error of the read that failed after them, if one did.
+#[derive(Drop)]
 pub struct Got {
     pub bytes: usize,
-    pub failed: bool,
-}
-
-// One read into the room from that index on: how many bytes came, and whether it failed.
-fn read_at(rt: &HostRuntime, room: &mut [u8], from: usize) -> Got
-    requires { from ≤ length room.old }
-    ensures { from + result.bytes ≤ length room.old }
-{
-    match rt.stdin().read(&mut room[from..]) {
-        Ok(bytes) => Got {
-            bytes,
-            failed: false,
-        },
-        Err(_) => Got {
-            bytes: 0,
-            failed: true,
-        },
-    }
+    pub error: Option<io::Error>,
 }
 
 /// Reads until the room is full, the input ends or a read fails.
+// std's `read_exact` does not tell how many bytes came before it failed
 pub fn read(rt: &HostRuntime, room: &mut [u8]) -> Got
     ensures { IsPrefixLen result.bytes room.new }
 {
     let mut bytes: usize = 0;
     while bytes < room.len() {
-        let more = read_at(rt, room, bytes);
-        if more.bytes == 0 {
-            return Got {
-                bytes,
-                failed: more.failed,
-            };
+        match rt.stdin().read(&mut room[bytes..]) {
+            Ok(0) => break,
+            Ok(more) => bytes += more,
+            Err(error) => {
+                return Got {
+                    bytes,
+                    error: Some(error),
+                };
+            }
         }
-        bytes += more.bytes;
     }
-    Got {
-        bytes,
-        failed: false,
-    }
+    Got { bytes, error: None }
 }
 
 /// Says words on standard error.

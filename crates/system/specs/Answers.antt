@@ -5,7 +5,6 @@ use Rattle.system.specs.declared.Answer.TheVariants.{Done, BadDomain, BadVcpu, B
 use Rattle.system.specs.declared.Answer.TheVariants.{TooLarge, Unsound, BadScript, BadFile, NotInFile, BadSeed}
 use Rattle.system.specs.declared.Answer.TheVariants.{FoundOffline, FoundRunnable, FoundRunning, FoundBlocked}
 use Rattle.system.specs.declared.System.{System}
-use Rattle.system.specs.declared.Transitioned.{Transitioned}
 
 -- each answer's number; 4, 10, 11 and 12 are told of a vCPU found in a state that the call does not accept
 abbrev pub told : Answer → ℕ
@@ -31,5 +30,5 @@ pub record SystemOutcome : Type 0 where
   pub number : ℕ
   pub system : System
 
-abbrev pub system_outcome : Transitioned → SystemOutcome
-system_outcome r = record { number = told r.answer; system = r.system }
+abbrev pub system_outcome : Answer → System → SystemOutcome
+system_outcome a s = record { number = told a; system = s }

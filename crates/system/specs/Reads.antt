@@ -1,5 +1,5 @@
 -- What can be read of a system, damaged or not.
-use Rattle.std.specs.Prelude.{ℕ, zero, suc, ◌+◌, ◌<◌, min, Bool, true, false, cond, not, ◌&&◌, ◌≡◌, refl, List, ltb, get_or}
+use Rattle.std.specs.Prelude.{ℕ, zero, suc, ◌+◌, ◌<◌, min, Bool, true, false, cond, not, ◌&&◌, ◌≡◌, refl, List, Option, None, Some, ltb, get_or}
 use Rattle.std.proofs.lemmas.Bool.{false≢true}
 use Rattle.std.proofs.Common.{ap, ap₂, arith}
 use Rattle.masks.specs.Masks.{permits, full_mask}
@@ -9,9 +9,6 @@ use Rattle.system.specs.declared.Occupant.{Occupant}
 use Rattle.system.specs.declared.Occupant.TheVariants.{Idle, Vcpu}
 use Rattle.system.specs.declared.PhysicalCpu.{PhysicalCpu}
 use Rattle.system.specs.declared.System.{System}
-use Rattle.system.specs.declared.MaybeVcpu.{MaybeVcpu}
-use Rattle.system.specs.declared.MaybeState.{MaybeState}
-use Rattle.system.specs.declared.MaybeU64.{MaybeU64}
 use Rattle.system.specs.States.{while_running, schedulable}
 use Rattle.system.specs.Shape.{no_vcpu, idle}
 use Rattle.system.specs.Slots.{domains, vcpus, pcpus, slot}
@@ -54,57 +51,57 @@ abbrev pub idle_at : System → ℕ → Bool
 idle_at s p = ltb p (pcpus s) && is_idle (occupant_at s p)
 
 -- an id at or above its count is absent
-unfoldable pub vcpu_of : System → ℕ → ℕ → MaybeVcpu
-vcpu_of s d v = cond (ltb d (domains s) && ltb v (vcpus s)) (MaybeVcpu.Some (vcpu_at s (slot d v))) MaybeVcpu.None
+unfoldable pub vcpu_of : System → ℕ → ℕ → Option VirtualCpu
+vcpu_of s d v = cond (ltb d (domains s) && ltb v (vcpus s)) (Some (vcpu_at s (slot d v))) None
 
 abbrev pub vcpu_count : System → ℕ → ℕ
 vcpu_count s d = cond (ltb d (domains s)) (vcpus s) 0
 
-abbrev pub state_in : MaybeVcpu → MaybeState
-state_in MaybeVcpu.None = MaybeState.None
-state_in (MaybeVcpu.Some v) = MaybeState.Some v.state
+abbrev pub state_in : Option VirtualCpu → Option RunState
+state_in None = None
+state_in (Some v) = Some v.state
 
-abbrev pub state_of : System → ℕ → ℕ → MaybeState
+abbrev pub state_of : System → ℕ → ℕ → Option RunState
 state_of s d v = state_in (vcpu_of s d v)
 
-abbrev pub runs : MaybeState → Bool
-runs MaybeState.None = false
-runs (MaybeState.Some st) = while_running st (λ p. true) false
+abbrev pub runs : Option RunState → Bool
+runs None = false
+runs (Some st) = while_running st (λ p. true) false
 
 abbrev pub is_running : System → ℕ → ℕ → Bool
 is_running s d v = runs (state_of s d v)
 
-abbrev pub runtime_in : MaybeVcpu → MaybeU64
-runtime_in MaybeVcpu.None = MaybeU64.None
-runtime_in (MaybeVcpu.Some v) = MaybeU64.Some v.runtime
+abbrev pub runtime_in : Option VirtualCpu → Option ℕ
+runtime_in None = None
+runtime_in (Some v) = Some v.runtime
 
-abbrev pub runtime_of : System → ℕ → ℕ → MaybeU64
+abbrev pub runtime_of : System → ℕ → ℕ → Option ℕ
 runtime_of s d v = runtime_in (vcpu_of s d v)
 
 -- the clock of a Running vCPU's dispatch
-abbrev pub since : RunState → ℕ → MaybeU64
-since st t = while_running st (λ p. MaybeU64.Some t) MaybeU64.None
+abbrev pub since : RunState → ℕ → Option ℕ
+since st t = while_running st (λ p. Some t) None
 
-abbrev pub since_in : MaybeVcpu → MaybeU64
-since_in MaybeVcpu.None = MaybeU64.None
-since_in (MaybeVcpu.Some v) = since v.state v.dispatched_at
+abbrev pub since_in : Option VirtualCpu → Option ℕ
+since_in None = None
+since_in (Some v) = since v.state v.dispatched_at
 
-abbrev pub on_cpu_since : System → ℕ → ℕ → MaybeU64
+abbrev pub on_cpu_since : System → ℕ → ℕ → Option ℕ
 on_cpu_since s d v = since_in (vcpu_of s d v)
 
 abbrev pub occupant_of : System → ℕ → Occupant
 occupant_of s p = cond (ltb p (pcpus s)) (occupant_at s p) Idle
 
-abbrev pub affinity_in : MaybeVcpu → MaybeU64
-affinity_in MaybeVcpu.None = MaybeU64.None
-affinity_in (MaybeVcpu.Some v) = MaybeU64.Some v.affinity
+abbrev pub affinity_in : Option VirtualCpu → Option ℕ
+affinity_in None = None
+affinity_in (Some v) = Some v.affinity
 
-abbrev pub affinity_of : System → ℕ → ℕ → MaybeU64
+abbrev pub affinity_of : System → ℕ → ℕ → Option ℕ
 affinity_of s d v = affinity_in (vcpu_of s d v)
 
-abbrev pub permits_in : MaybeVcpu → ℕ → Bool
-permits_in MaybeVcpu.None p = false
-permits_in (MaybeVcpu.Some v) p = permits v.affinity p
+abbrev pub permits_in : Option VirtualCpu → ℕ → Bool
+permits_in None p = false
+permits_in (Some v) p = permits v.affinity p
 
 abbrev pub affinity_permits : System → ℕ → ℕ → ℕ → Bool
 affinity_permits s d v p = ltb p (pcpus s) && permits_in (vcpu_of s d v) p

@@ -1,13 +1,11 @@
 -- Each answer's number as the requirements list it, and what building and each read give, worked out by hand. Assumes nothing.
-use Rattle.std.specs.Prelude.{ℕ, ◌+◌, ◌*◌, ◌-◌, ◌^◌, refl, List, [], ◌∷◌}
+use Rattle.std.specs.Prelude.{ℕ, ◌+◌, ◌*◌, ◌-◌, ◌^◌, refl, List, [], ◌∷◌, Option, None, Some}
 use Rattle.rows.specs.Rows.{Row, row, rows, test, AllDue}
 use Rattle.system.specs.declared.RunState.{RunState}
 use Rattle.system.specs.declared.RunState.TheVariants.{Offline, Runnable, Running, Blocked}
 use Rattle.system.specs.declared.Occupant.{Occupant}
 use Rattle.system.specs.declared.Occupant.TheVariants.{Idle, Vcpu}
 use Rattle.system.specs.declared.System.{System}
-use Rattle.system.specs.declared.MaybeState.{MaybeState}
-use Rattle.system.specs.declared.MaybeU64.{MaybeU64}
 use Rattle.system.specs.declared.Answer.TheVariants.{Done, BadDomain, BadVcpu, BadPcpu, PcpuBusy, NotAffine}
 use Rattle.system.specs.declared.Answer.TheVariants.{TooLarge, Unsound, BadScript, BadFile, NotInFile, BadSeed}
 use Rattle.system.specs.declared.Answer.TheVariants.{FoundOffline, FoundRunnable, FoundRunning, FoundBlocked}
@@ -45,17 +43,17 @@ numbers-due = refl
 -- ---- reads
 
 -- absent 0, else 1 before the number
-abbrev number : MaybeU64 → List ℕ
-number MaybeU64.None = 0 ∷ []
-number (MaybeU64.Some n) = 1 ∷ n ∷ []
+abbrev number : Option ℕ → List ℕ
+number None = 0 ∷ []
+number (Some n) = 1 ∷ n ∷ []
 
 -- absent 0, Offline 1, Runnable 2, Blocked 3, 10 + p Running on pCPU p
-abbrev state : MaybeState → ℕ
-state MaybeState.None = 0
-state (MaybeState.Some Offline) = 1
-state (MaybeState.Some Runnable) = 2
-state (MaybeState.Some (Running p)) = 10 + p
-state (MaybeState.Some Blocked) = 3
+abbrev state : Option RunState → ℕ
+state None = 0
+state (Some Offline) = 1
+state (Some Runnable) = 2
+state (Some (Running p)) = 10 + p
+state (Some Blocked) = 3
 
 -- idle 0, else 1 + 10 × domain + vCPU
 abbrev holder : Occupant → ℕ

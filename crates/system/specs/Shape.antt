@@ -1,11 +1,12 @@
 -- How large a host can be, and a system as built.
-use Rattle.std.specs.Prelude.{ℕ, Bool, cond, ◌&&◌, leb, replicate}
+use Rattle.std.specs.Prelude.{ℕ, Bool, cond, ◌&&◌, leb, replicate, Result, Ok, Err}
 use Rattle.masks.specs.Masks.{full_mask}
 use Rattle.system.specs.declared.RunState.TheVariants.{Offline}
 use Rattle.system.specs.declared.VirtualCpu.{VirtualCpu}
 use Rattle.system.specs.declared.Occupant.TheVariants.{Idle}
 use Rattle.system.specs.declared.PhysicalCpu.{PhysicalCpu}
 use Rattle.system.specs.declared.System.{System}
+use Rattle.system.specs.declared.Answer.{Answer}
 use Rattle.system.specs.declared.Answer.TheVariants.{Done, TooLarge}
 use Rattle.system.specs.Answers.{told, SystemOutcome}
 use Rattle.system.specs.Records.{no_pcpu, with_mask}
@@ -40,6 +41,11 @@ fresh d v p =
       vcpus = replicate 128 (blank p);
       pcpus = replicate 64 idle;
     }
+
+-- what building hands back: beside a refusal stands the system of no domains, vCPUs and pCPUs
+abbrev pub built_outcome : Result System Answer → SystemOutcome
+built_outcome (Ok s) = record { number = told Done; system = s }
+built_outcome (Err a) = record { number = told a; system = fresh 0 0 0 }
 
 -- a shape above the sizes is told 7, beside the system of no domains, vCPUs and pCPUs
 abbrev pub built_system : ℕ → ℕ → ℕ → SystemOutcome

@@ -4,7 +4,7 @@
 --   of the system: 18 domains, 19 vCPUs in each, 20 pCPUs
 --   of the policy: 21 domains, 22 vCPUs in each, 23 slice, 24 boost
 --   of an account, at the slot of the ids: 25 weight, 26 lower two limbs of the offset, 27 the upper two, 28 snapshot
-use Rattle.std.specs.Prelude.{ℕ, ◌/◌, ◌%◌, ◌^◌, Bool, true, false, cond, not, List, [], ◌∷◌, eqb, get_or, set}
+use Rattle.std.specs.Prelude.{ℕ, ◌/◌, ◌%◌, ◌^◌, Bool, true, false, ◌==◌, if◌then◌else◌, not, List, [], ◌∷◌, get_or, set}
 use Rattle.system.specs.declared.RunState.{RunState}
 use Rattle.system.specs.declared.RunState.TheVariants.{Offline, Runnable, Running, Blocked}
 use Rattle.system.specs.declared.VirtualCpu.{VirtualCpu}
@@ -28,33 +28,36 @@ pcpu_of p = p % 64
 
 -- what the record says, if it is of kind k; else what is there
 abbrev pub word_written : Record → ℕ → ℕ → ℕ
-word_written r k old = cond (eqb r.kind k) r.value old
+word_written r k old = if r.kind == k then r.value else old
 
 abbrev pub third_written : Record → ℕ → ℕ → ℕ
-third_written r k old = cond (eqb r.kind k) r.third old
+third_written r k old = if r.kind == k then r.third else old
 
 -- a value of 0 is false
 abbrev pub flag_written : Record → ℕ → Bool → Bool
-flag_written r k old = cond (eqb r.kind k) (not (eqb r.value 0)) old
+flag_written r k old = if r.kind == k then not (r.value == 0) else old
 
 -- values 0, 1 and 2 are Offline, Runnable and Running on the third; any other is Blocked
 abbrev pub state_written : Record → RunState → RunState
 state_written r old =
-    cond (eqb r.kind 13)
-    (cond (eqb r.value 0) Offline (cond (eqb r.value 1) Runnable (cond (eqb r.value 2) (Running r.third) Blocked)))
-    old
+    let said =
+    if r.value == 0 then Offline else if r.value == 1 then Runnable else if r.value == 2 then Running r.third else Blocked in
+    if r.kind == 13 then said else old
 
 -- a value of 0 is Idle; with any other the record's vCPU holds it
 abbrev pub occupant_written : Record → Occupant → Occupant
-occupant_written r old = cond (eqb r.kind 17) (cond (eqb r.value 0) Idle (Vcpu r.dom r.vcpu)) old
+occupant_written r old =
+    let said = if r.value == 0 then Idle else Vcpu r.dom r.vcpu in
+    if r.kind == 17 then said else old
 
 -- the value's lower half is the lower limb
 abbrev pub offset_written : Record → List ℕ → List ℕ
 offset_written r old =
     let low = r.value % 2 ^ 32 in
     let high = r.value / 2 ^ 32 in
-    cond (eqb r.kind 26) (low ∷ high ∷ get_or old 2 0 ∷ get_or old 3 0 ∷ [])
-    (cond (eqb r.kind 27) (get_or old 0 0 ∷ get_or old 1 0 ∷ low ∷ high ∷ []) old)
+    if r.kind == 26 then low ∷ high ∷ get_or old 2 0 ∷ get_or old 3 0 ∷ []
+    else if r.kind == 27 then get_or old 0 0 ∷ get_or old 1 0 ∷ low ∷ high ∷ []
+    else old
 
 unfoldable pub vcpu_written : Record → VirtualCpu → VirtualCpu
 vcpu_written r v =

@@ -3,221 +3,140 @@
 
 #![tactic(auto)]
 
-ghost use Rattle.std.specs.Prelude.{◌≡◌};
-ghost use Rattle.test_fields.specs.Fields.{slot_of, pcpu_of, word_written, flag_written, state_written, occupant_written};
-ghost use Rattle.test_fields.specs.Fields.{vcpu_written, system_written, offset_written, third_written, account_written, policy_written, written};
-ghost use Rattle.test_fields.specs.Fields.{bit, kept};
+ghost use Rattle.std.specs.Prelude.{◌≡◌, ◌==◌, if◌then◌else◌};
+ghost use Rattle.test_fields.specs.Fields.{state_written, occupant_written, vcpu_written, system_written};
+ghost use Rattle.test_fields.specs.Fields.{offset_written, account_written, policy_written, written, kept};
 
 use host::Host;
 use policy::{Account, Scheduler};
 use records::Record;
-use system::{DomId, Occupant, Pcpu, PhysicalCpu, RunState, System, Vcpu, VirtualCpu};
+use service::Service;
+use system::{DomId, Occupant, RunState, System, Vcpu, VirtualCpu};
 
 /// The first kind of record that names a field.
 pub const FIRST: u16 = 13;
 /// The last one.
 pub const LAST: u16 = 29;
 
-/// What is kept at a slot, as numbers.
-pub type Numbers = [u64; 9];
+// ---- one field: what the record says if the kind names it, else what is there. Kinds stay numbers, as the stream of records
+// has them; specs/Fields lists them.
 
-// ---- where
-
-fn slot_of(dom: DomId, vcpu: Vcpu) -> usize
-    ensures { result ≡ slot_of dom vcpu }
+fn named<T: Copy>(r: Record, kind: u16, said: T, old: T) -> T
+    ensures { result ≡ (if r.kind == kind then said else old) }
 {
-    (dom % 16) as usize * 8 + (vcpu % 8) as usize
-}
-
-fn pcpu_of(pcpu: Pcpu) -> usize
-    ensures { result ≡ pcpu_of pcpu }
-{
-    (pcpu % 64) as usize
-}
-
-// ---- one field: the record's value or third if the kind names it, else what is there
-
-fn word(r: Record, kind: u16, old: u64) -> u64
-    ensures { result ≡ word_written r kind old }
-{
-    if r.kind == kind { r.value } else { old }
-}
-
-fn count(r: Record, kind: u16, old: usize) -> usize
-    ensures { result ≡ word_written r kind old }
-{
-    if r.kind == kind {
-        r.value as usize
-    } else {
-        old
-    }
-}
-
-fn flag(r: Record, kind: u16, old: bool) -> bool
-    ensures { result ≡ flag_written r kind old }
-{
-    if r.kind == kind { r.value != 0 } else { old }
+    if r.kind == kind { said } else { old }
 }
 
 fn state(r: Record, old: RunState) -> RunState
     ensures { result ≡ state_written r old }
 {
-    if r.kind != 13 {
-        return old;
-    }
-    if r.value == 0 {
-        return RunState::Offline;
-    }
-    if r.value == 1 {
-        return RunState::Runnable;
-    }
-    if r.value == 2 {
-        return RunState::Running { pcpu: r.third };
-    }
-    RunState::Blocked
+    let said = match r.value {
+        0 => RunState::Offline,
+        1 => RunState::Runnable,
+        2 => RunState::Running { pcpu: r.third },
+        _ => RunState::Blocked,
+    };
+    named(r, 13, said, old)
 }
 
 fn occupant(r: Record, old: Occupant) -> Occupant
     ensures { result ≡ occupant_written r old }
 {
-    if r.kind != 17 {
-        return old;
-    }
-    if r.value == 0 {
-        return Occupant::Idle;
-    }
-    Occupant::Vcpu {
-        dom: r.dom,
-        vcpu: r.vcpu,
-    }
+    let said = if r.value == 0 {
+        Occupant::Idle
+    } else {
+        Occupant::Vcpu {
+            dom: r.dom,
+            vcpu: r.vcpu,
+        }
+    };
+    named(r, 17, said, old)
 }
 
-fn offset(r: Record, old: [u32; 4]) -> [u32; 4]
+fn offset(r: Record, old: Service) -> Service
     ensures { result ≡ offset_written r old }
 {
     let low = (r.value % 0x1_0000_0000) as u32;
     let high = (r.value / 0x1_0000_0000) as u32;
-    if r.kind == 26 {
-        return [low, high, old[2], old[3]];
+    match r.kind {
+        26 => [low, high, old[2], old[3]],
+        27 => [old[0], old[1], low, high],
+        _ => old,
     }
-    if r.kind == 27 {
-        return [old[0], old[1], low, high];
-    }
-    old
-}
-
-fn third(r: Record, kind: u16, old: u32) -> u32
-    ensures { result ≡ third_written r kind old }
-{
-    if r.kind == kind { r.third } else { old }
 }
 
 // ---- the records of a host
 
 #[tactic(auto, unfolding(crate::specs::Fields::vcpu_written))]
-fn vcpu(r: Record, v: VirtualCpu) -> VirtualCpu
-    ensures { result ≡ vcpu_written r v }
+fn write_vcpu(v: &mut VirtualCpu, r: Record)
+    ensures { v.new ≡ vcpu_written r v.old }
 {
-    let old = v.state;
-    VirtualCpu {
-        state: state(r, old),
-        runtime: word(r, 14, v.runtime),
-        dispatched_at: word(r, 15, v.dispatched_at),
-        affinity: word(r, 16, v.affinity),
-        last: third(r, 29, v.last),
-    }
+    v.state = state(r, v.state);
+    v.runtime = named(r, 14, r.value, v.runtime);
+    v.dispatched_at = named(r, 15, r.value, v.dispatched_at);
+    v.affinity = named(r, 16, r.value, v.affinity);
+    v.last = named(r, 29, r.third, v.last);
 }
 
 #[tactic(auto, unfolding(crate::specs::Fields::system_written, system::specs::Reads::vcpu_at, system::specs::Reads::occupant_at))]
-fn system(r: Record, mut s: System) -> System
-    ensures { result ≡ system_written r s }
+fn write_system(s: &mut System, r: Record)
+    ensures { s.new ≡ system_written r s.old }
 {
-    let i = slot_of(r.dom, r.vcpu);
-    let p = pcpu_of(r.third);
-    let v = s.vcpus[i];
-    let c = s.pcpus[p];
-    let holder = c.occupant;
-    s.vcpus[i] = vcpu(r, v);
-    s.pcpus[p] = PhysicalCpu {
-        occupant: occupant(r, holder),
-    };
-    s.domain_count = count(r, 18, s.domain_count);
-    s.vcpus_per_domain = count(r, 19, s.vcpus_per_domain);
-    s.pcpu_count = count(r, 20, s.pcpu_count);
-    s
+    let p = (r.third % 64) as usize;
+    write_vcpu(&mut s.vcpus[system::slot_read(r.dom, r.vcpu)], r);
+    s.pcpus[p].occupant = occupant(r, s.pcpus[p].occupant);
+    s.domain_count = named(r, 18, r.value as usize, s.domain_count);
+    s.vcpus_per_domain = named(r, 19, r.value as usize, s.vcpus_per_domain);
+    s.pcpu_count = named(r, 20, r.value as usize, s.pcpu_count);
 }
 
 #[tactic(auto, unfolding(crate::specs::Fields::account_written))]
-fn account(r: Record, a: Account) -> Account
-    ensures { result ≡ account_written r a }
+fn write_account(a: &mut Account, r: Record)
+    ensures { a.new ≡ account_written r a.old }
 {
-    let old = a.offset;
-    Account {
-        weight: third(r, 25, a.weight),
-        offset: offset(r, old),
-        was_schedulable: flag(r, 28, a.was_schedulable),
-    }
+    a.weight = named(r, 25, r.third, a.weight);
+    a.offset = offset(r, a.offset);
+    a.was_schedulable = named(r, 28, r.value != 0, a.was_schedulable);
 }
 
-fn policy(r: Record, mut p: Scheduler) -> Scheduler
-    ensures { result ≡ policy_written r p }
+fn write_policy(p: &mut Scheduler, r: Record)
+    ensures { p.new ≡ policy_written r p.old }
 {
-    let i = slot_of(r.dom, r.vcpu);
-    let a = p.accounts[i];
-    p.accounts[i] = account(r, a);
-    p.domain_count = count(r, 21, p.domain_count);
-    p.vcpus_per_domain = count(r, 22, p.vcpus_per_domain);
-    p.quantum = word(r, 23, p.quantum);
-    p.wake_boost = flag(r, 24, p.wake_boost);
-    p
+    write_account(&mut p.accounts[system::slot_read(r.dom, r.vcpu)], r);
+    p.domain_count = named(r, 21, r.value as usize, p.domain_count);
+    p.vcpus_per_domain = named(r, 22, r.value as usize, p.vcpus_per_domain);
+    p.quantum = named(r, 23, r.value, p.quantum);
+    p.wake_boost = named(r, 24, r.value != 0, p.wake_boost);
 }
 
-/// The host with the field written that the record's kind names; a kind that names none leaves it.
-pub fn write(h: Host, r: Record) -> Host
-    ensures { result ≡ written r h }
+/// Writes the field that the record's kind names; a kind that names none leaves the host.
+pub fn write(h: &mut Host, r: Record)
+    ensures { h.new ≡ written r h.old }
 {
-    let s = h.system;
-    let p = h.scheduler;
-    Host {
-        system: system(r, s),
-        scheduler: policy(r, p),
-    }
+    write_system(&mut h.system, r);
+    write_policy(&mut h.scheduler, r);
 }
 
 // ---- what is kept
 
-/// A number as a wider one.
-pub fn wide(n: u32) -> u64
-    ensures { result ≡ n }
-{
-    n as u64
-}
-
-/// 1 for true, 0 for false.
-pub fn bit(b: bool) -> u64
-    ensures { result ≡ bit b }
-{
-    if b { 1 } else { 0 }
-}
-
 /// What no other read tells, at a slot: the weight as stored, the offset by limbs, the snapshot, the boost,
 /// the clock of the last dispatch, and the pCPU that it was last on.
-pub fn kept(s: System, p: Scheduler, dom: DomId, vcpu: Vcpu) -> Numbers
-    ensures { result ≡ kept s p dom vcpu }
+pub fn kept(h: &Host, dom: DomId, vcpu: Vcpu) -> [u64; 9]
+    ensures { result ≡ kept h.now.system h.now.scheduler dom vcpu }
 {
-    let i = slot_of(dom, vcpu);
-    let v = s.vcpus[i];
-    let a = p.accounts[i];
-    let o = a.offset;
+    let i = system::slot_read(dom, vcpu);
+    let v = &h.system.vcpus[i];
+    let a = &h.scheduler.accounts[i];
+    let [lowest, low, high, highest] = a.offset;
     [
-        wide(a.weight),
-        wide(o[0]),
-        wide(o[1]),
-        wide(o[2]),
-        wide(o[3]),
-        bit(a.was_schedulable),
-        bit(p.wake_boost),
+        a.weight as u64,
+        lowest as u64,
+        low as u64,
+        high as u64,
+        highest as u64,
+        a.was_schedulable as u64,
+        h.scheduler.wake_boost as u64,
         v.dispatched_at,
-        wide(v.last),
+        v.last as u64,
     ]
 }

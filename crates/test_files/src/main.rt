@@ -4,7 +4,7 @@
 
 #![tactic(auto)]
 
-use big_endian::{double, half};
+use big_endian::BigEndian;
 use std::io::Print;
 use system::{Answer, MAX_DOMAINS};
 
@@ -21,72 +21,47 @@ fn put(rt: &HostRuntime, n: u64, end: &[u8]) {
     put_bytes(rt, end);
 }
 
-// By one reader, what it gives of each domain.
-fn put_bodies(rt: &HostRuntime, file: &[u8]) {
-    let text = usage_read::text_of(file, MAX_DOMAINS);
-    let bytes = text.bytes;
-    let n = text.length;
-    put_bytes(rt, &bytes[..n]);
-}
-
 fn examine(rt: &HostRuntime, file: &[u8], domain: usize) {
-    let count = usage_parse::domain_count(file);
-    if count == usage_parse::REFUSED {
-        put(rt, system::number_of(Answer::BadFile), b" 0 ");
-    } else {
-        put(rt, 0, b" ");
-        put(rt, count as u64, b" ");
+    match usage_parse::domain_count(file) {
+        None => put(rt, system::number_of(Answer::BadFile), b" 0 "),
+        Some(count) => {
+            put(rt, 0, b" ");
+            put(rt, count as u64, b" ");
+        }
     }
-    put(rt, usage_read::answer_of(file, domain), b" ");
+    let answer = usage_read::answer_of(file, domain);
+    put(rt, system::number_of(answer), b" ");
     put(rt, usage_read::body_of(file, domain).len() as u64, b"\n");
-    put_bodies(rt, file);
-}
-
-// The number in the 8 bytes from index 2 on.
-fn domain_in(head: [u8; 10]) -> u64 {
-    double(
-        head[2], head[3], head[4], head[5], head[6], head[7], head[8], head[9],
-    )
-}
-
-fn read_first(rt: &HostRuntime, input: &mut [u8], n: usize) -> usize {
-    if input.len() < n {
-        return 0;
-    }
-    streams::read(rt, &mut input[..n]).bytes
-}
-
-fn examine_first(rt: &HostRuntime, input: &[u8], n: usize, domain: usize) {
-    if n <= input.len() {
-        examine(rt, &input[..n], domain);
-    }
+    // by one reader, what it gives of each domain
+    let all = usage_read::text_of(file, MAX_DOMAINS);
+    put_bytes(rt, all.text.as_slice());
 }
 
 // One file; false where there is none left.
 fn examined(rt: &HostRuntime) -> bool {
     let mut head = [0u8; 10];
     let mut input = [0u8; ROOM];
-    let got = streams::read(rt, &mut head).bytes;
-    let length = half(head[0], head[1]) as usize;
-    if got < 10 {
+    if streams::read(rt, &mut head).bytes < head.len() {
         return false;
     }
-    let read = read_first(rt, &mut input, length);
-    if read < length {
+    let length = u16::read_at(&head, 0) as usize;
+    let domain = u64::read_at(&head, 2);
+    if ROOM < length {
         return false;
     }
-    examine_first(rt, &input, length, domain_in(head) as usize);
+    let file = &mut input[..length];
+    if streams::read(rt, file).bytes < length {
+        return false;
+    }
+    examine(rt, file, domain as usize);
     true
 }
 
 fn main(rt: HostRuntime) {
     // a proved loop has to end, and nothing says that the input does
-    let mut turns = u64::MAX;
-    while turns > 0 {
-        let more = examined(&rt);
-        if !more {
+    for _ in 0..u64::MAX {
+        if !examined(&rt) {
             return;
         }
-        turns -= 1;
     }
 }

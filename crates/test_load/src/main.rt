@@ -1,34 +1,13 @@
-//! Writes a load record by record, as `load_script::next` hands it out, for tests: the stored sample of `load`.
+//! Writes a load record by record, as its iterator hands it out, for tests: the stored sample of `load`.
 
 #![tactic(auto)]
 
-use load_script::{Load, MaybeRecord};
-use records::{Record, Shape};
-
-// A load after a record, and whether there was one and it was written.
-#[derive(Clone, Copy)]
-struct Turn {
-    load: Load,
-    more: bool,
-}
+use records::{RECORD, Record, Shape};
 
 fn put(rt: &HostRuntime, r: Record) -> bool {
-    let mut bytes = [0u8; 20];
+    let mut bytes = [0u8; RECORD];
     records::put_record(&mut bytes, 0, r);
     streams::put(rt, &bytes, b"test_load: standard output takes no more\n")
-}
-
-fn put_next(rt: &HostRuntime, l: Load) -> Turn {
-    let handed = load_script::next(l);
-    let load = handed.load;
-    let next = handed.next;
-    match next {
-        MaybeRecord::None => Turn { load, more: false },
-        MaybeRecord::Some(r) => Turn {
-            load,
-            more: put(rt, r),
-        },
-    }
 }
 
 fn main(rt: HostRuntime) {
@@ -38,16 +17,9 @@ fn main(rt: HostRuntime) {
         num_pcpus: 2,
         quantum: 10,
     };
-    let opened = load_script::open(20261117, shape, 400);
-    let mut l = opened.load;
-    // it ends where no record is handed out, well before this
-    let mut turns = u64::MAX;
-    while turns > 0 {
-        let turned = put_next(&rt, l);
-        if !turned.more {
+    for r in load_script::open(20261117, shape, 400).load {
+        if !put(&rt, r) {
             return;
         }
-        l = turned.load;
-        turns -= 1;
     }
 }

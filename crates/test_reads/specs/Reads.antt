@@ -23,7 +23,7 @@ vcpu_numbers s q =
     ∷ maybe_numbers (runtime_of s q.dom q.vcpu)
     ++ (maybe_numbers (on_cpu_since s q.dom q.vcpu) ++ maybe_numbers (affinity_of s q.dom q.vcpu))
 
--- whether its mask admits the pCPU, its weight, its domain's vCPUs, the mask of all pCPUs, what its domain used up to the clock, by limbs
+-- whether its mask admits the pCPU, its weight, how many vCPUs its domain has, the mask of all pCPUs, what it used, by limbs
 unfoldable pub domain_numbers : System → Scheduler → Query → List ℕ
 domain_numbers s π q =
     bit (affinity_permits s q.dom q.vcpu q.pcpu)

@@ -11,9 +11,7 @@ ghost use Rattle.test_reads.specs.Reads.{vcpu_numbers, domain_numbers, host_numb
 
 use advance::Decision;
 use host::Host;
-use policy::Scheduler;
-use system::{DomId, MaybeState, MaybeU64, Occupant, Pcpu, RunState, System, Ticks, Vcpu};
-use test_fields::{bit, wide};
+use system::{Answer, DomId, Occupant, Pcpu, RunState, System, Ticks, Vcpu};
 use verdict::Violation;
 
 /// The most bytes that the five lines take.
@@ -30,26 +28,24 @@ pub struct Query {
 
 // ---- numbers for what is no number
 
-fn maybe_state_number(found: MaybeState) -> u64
+fn maybe_state_number(found: Option<RunState>) -> u64
     ensures { result ≡ maybe_state_number found }
 {
     match found {
-        MaybeState::None => 0,
-        MaybeState::Some(state) => match state {
-            RunState::Offline => 1,
-            RunState::Runnable => 2,
-            RunState::Running { pcpu } => pcpu as u64 + 4,
-            RunState::Blocked => 3,
-        },
+        None => 0,
+        Some(RunState::Offline) => 1,
+        Some(RunState::Runnable) => 2,
+        Some(RunState::Blocked) => 3,
+        Some(RunState::Running { pcpu }) => pcpu as u64 + 4,
     }
 }
 
-fn maybe_numbers(found: MaybeU64) -> [u64; 2]
+fn maybe_numbers(found: Option<u64>) -> [u64; 2]
     ensures { result ≡ maybe_numbers found }
 {
     match found {
-        MaybeU64::None => [0, 0],
-        MaybeU64::Some(n) => [1, n],
+        None => [0, 0],
+        Some(n) => [1, n],
     }
 }
 
@@ -62,17 +58,17 @@ fn holder_numbers(o: Occupant) -> [u64; 3]
     }
 }
 
-fn violation_numbers(v: Violation) -> [u64; 3]
-    ensures { result ≡ violation_numbers v }
+fn violation_numbers(found: Option<Violation>) -> [u64; 3]
+    ensures { result ≡ violation_numbers found }
 {
-    match v {
-        Violation::None => [0, 0, 0],
-        Violation::Oversize => [1, 0, 0],
-        Violation::RunningGhostPcpu { dom, vcpu } => [2, dom as u64, vcpu as u64],
-        Violation::OccupancyBroken { dom, vcpu } => [3, dom as u64, vcpu as u64],
-        Violation::RunningOffAffinity { dom, vcpu } => [4, dom as u64, vcpu as u64],
-        Violation::OccupantGhost { pcpu } => [5, pcpu as u64, 0],
-        Violation::OccupantNotRunning { pcpu } => [6, pcpu as u64, 0],
+    match found {
+        None => [0, 0, 0],
+        Some(Violation::Oversize) => [1, 0, 0],
+        Some(Violation::RunningGhostPcpu { dom, vcpu }) => [2, dom as u64, vcpu as u64],
+        Some(Violation::OccupancyBroken { dom, vcpu }) => [3, dom as u64, vcpu as u64],
+        Some(Violation::RunningOffAffinity { dom, vcpu }) => [4, dom as u64, vcpu as u64],
+        Some(Violation::OccupantGhost { pcpu }) => [5, pcpu as u64, 0],
+        Some(Violation::OccupantNotRunning { pcpu }) => [6, pcpu as u64, 0],
     }
 }
 
@@ -88,73 +84,69 @@ fn decision_numbers(d: Decision) -> [u64; 4]
 
 // ---- what is read
 
-fn vcpu_numbers(s: System, q: Query) -> [u64; 8]
-    ensures { result ≡ vcpu_numbers s q }
+fn vcpu_numbers(s: &System, q: &Query) -> [u64; 8]
+    ensures { result ≡ vcpu_numbers s.now q.now }
 {
-    let ran = maybe_numbers(s.runtime(q.dom, q.vcpu));
-    let since = maybe_numbers(s.on_cpu_since(q.dom, q.vcpu));
-    let mask = maybe_numbers(s.affinity_of(q.dom, q.vcpu));
-    [
-        maybe_state_number(s.state_of(q.dom, q.vcpu)),
-        bit(s.is_running(q.dom, q.vcpu)),
-        ran[0],
-        ran[1],
-        since[0],
-        since[1],
-        mask[0],
-        mask[1],
-    ]
+    let [ran, run_time] = maybe_numbers(s.runtime(q.dom, q.vcpu));
+    let [on, since] = maybe_numbers(s.on_cpu_since(q.dom, q.vcpu));
+    let [there, mask] = maybe_numbers(s.affinity_of(q.dom, q.vcpu));
+    let state = maybe_state_number(s.state_of(q.dom, q.vcpu));
+    let running = s.is_running(q.dom, q.vcpu) as u64;
+    [state, running, ran, run_time, on, since, there, mask]
 }
 
-fn domain_numbers(s: System, p: Scheduler, q: Query) -> [u64; 8]
-    ensures { result ≡ domain_numbers s p q }
+fn domain_numbers(h: &Host, q: &Query) -> [u64; 8]
+    ensures { result ≡ domain_numbers h.now.system h.now.scheduler q.now }
 {
-    let used = usage::usage(s, q.dom, q.clock);
+    let s = &h.system;
+    let [lowest, low, high, highest] = usage::usage(s, q.dom, q.clock);
     [
-        bit(s.affinity_permits(q.dom, q.vcpu, q.pcpu)),
-        wide(p.weight_of(q.dom, q.vcpu)),
+        s.affinity_permits(q.dom, q.vcpu, q.pcpu) as u64,
+        h.scheduler.weight_of(q.dom, q.vcpu) as u64,
         s.vcpu_count(q.dom) as u64,
         s.full_affinity(),
-        wide(used[0]),
-        wide(used[1]),
-        wide(used[2]),
-        wide(used[3]),
+        lowest as u64,
+        low as u64,
+        high as u64,
+        highest as u64,
     ]
 }
 
-fn host_numbers(s: System, p: Scheduler, pcpu: Pcpu) -> [u64; 8]
-    ensures { result ≡ host_numbers s p pcpu }
+fn host_numbers(h: &Host, pcpu: Pcpu) -> [u64; 8]
+    ensures { result ≡ host_numbers h.now.system h.now.scheduler pcpu }
 {
-    let holder = holder_numbers(s.occupant(pcpu));
+    let s = &h.system;
+    let [held, dom, vcpu] = holder_numbers(s.occupant(pcpu));
     [
         s.domain_count() as u64,
         s.pcpu_count() as u64,
         s.busy_pcpus() as u64,
-        p.quantum(),
-        bit(verdict::invariants_hold(s)),
-        holder[0],
-        holder[1],
-        holder[2],
+        h.scheduler.quantum(),
+        verdict::invariants_hold(s) as u64,
+        held,
+        dom,
+        vcpu,
     ]
 }
 
-fn move_numbers(s: System, p: Scheduler, clock: Ticks) -> [u64; 8]
-    ensures { result ≡ move_numbers s p clock }
+fn move_numbers(h: &Host, clock: Ticks) -> [u64; 8]
+    ensures { result ≡ move_numbers h.now.system h.now.scheduler clock }
 {
-    let wrong = violation_numbers(verdict::first_violation(s));
-    let r = advance::next(s, p, clock);
-    let answer = r.answer;
-    let decision = r.decision;
-    let chosen = decision_numbers(decision);
+    let [wrong, place, vcpu] = violation_numbers(verdict::first_violation(&h.system));
+    let (answer, decision) = match advance::next(&h.system, &h.scheduler, clock) {
+        Ok(decision) => (Answer::Done, decision),
+        Err(answer) => (answer, Decision::Idle),
+    };
+    let [way, of_dom, of_vcpu, pcpu] = decision_numbers(decision);
     [
-        wrong[0],
-        wrong[1],
-        wrong[2],
+        wrong,
+        place,
+        vcpu,
         system::number_of(answer),
-        chosen[0],
-        chosen[1],
-        chosen[2],
-        chosen[3],
+        way,
+        of_dom,
+        of_vcpu,
+        pcpu,
     ]
 }
 
@@ -167,33 +159,28 @@ fn put_numbers(out: &mut [u8], at: usize, numbers: &[u64]) -> usize
     ensures within { result ≤ at + (length numbers.now * 21 + 1) }
 {
     let line = text::numbers_line(numbers);
-    text::append(out, at, line)
+    text::append(out, at, line.as_slice())
 }
 
-fn put_reads(out: &mut [u8], at: usize, s: System, p: Scheduler, q: Query) -> usize
+fn put_reads(out: &mut [u8], at: usize, h: &Host, q: &Query) -> usize
     requires { at + reads_room ≤ length out.old }
-    ensures { Placed out.old at (reads_text s p q) out.new result }
+    ensures { Placed out.old at (reads_text h.now.system h.now.scheduler q.now) out.new result }
 {
-    let a = put_numbers(out, at, &vcpu_numbers(s, q));
-    let b = put_numbers(out, a, &domain_numbers(s, p, q));
-    let c = put_numbers(out, b, &host_numbers(s, p, q.pcpu));
-    let d = put_numbers(out, c, &move_numbers(s, p, q.clock));
-    put_numbers(out, d, &test_fields::kept(s, p, q.dom, q.vcpu))
+    let a = put_numbers(out, at, &vcpu_numbers(&h.system, q));
+    let b = put_numbers(out, a, &domain_numbers(h, q));
+    let c = put_numbers(out, b, &host_numbers(h, q.pcpu));
+    let d = put_numbers(out, c, &move_numbers(h, q.clock));
+    put_numbers(out, d, &test_fields::kept(h, q.dom, q.vcpu))
 }
 
 /// Puts what can be read of a host at index `at`, if ROOM bytes are left there, and answers the
 /// index past it.
-pub fn reads(out: &mut [u8], at: usize, h: Host, q: Query) -> usize
-    ensures out_after { out.new ≡ put_within reads_room out.old at (reads_text h.system h.scheduler q) }
-    ensures value { result ≡ end_within reads_room out.old at (reads_text h.system h.scheduler q) }
+pub fn reads(out: &mut [u8], at: usize, h: &Host, q: &Query) -> usize
+    ensures put { out.new ≡ put_within reads_room out.old at (reads_text h.now.system h.now.scheduler q.now) }
+    ensures end { result ≡ end_within reads_room out.old at (reads_text h.now.system h.now.scheduler q.now) }
 {
-    if out.len() < at {
+    if out.len() < at || out.len() - at < ROOM {
         return at;
     }
-    if out.len() - at < ROOM {
-        return at;
-    }
-    let s = h.system;
-    let p = h.scheduler;
-    put_reads(out, at, s, p, q)
+    put_reads(out, at, h, q)
 }

@@ -1,75 +1,60 @@
--- Decimal digits put in place one by one, the last first. Assumes nothing.
-use Prim.Native.Nat.{ℕ, zero, suc, ◌+◌, ◌-◌, ◌/◌, ◌%◌, ◌^◌, ◌≤◌, ◌<◌}
-use mathlib.Core.Bool.{Bool, true, false, cond}
-use mathlib.Core.Path.{◌≡◌, refl, sym, ◌∙◌, ap, ap₂}
-use mathlib.Core.List.{List, [], ◌∷◌, ◌++◌}
-use native.Mathlib.Nat.{pow-suc, mod-eq_of_lt}
-use native.Mathlib.Numerals.{add-one, sub-one}
-use native.Mathlib.Omega.{arith}
-use lib.Dec.{ltb}
-use lib.ListN.{length, take, drop, set, length-append}
-use lib.Seq.{length-take-le, append_snoc, set_split, take-set-le, drop_at}
-use borrow.Author.Tests.{ltb-true, lt-ltb, le-ltb}
+-- Decimal digits: they are std's, how many there are, and that they stand where they were written. Assumes nothing.
+use Rattle.std.proofs.Common.{◌≡◌, ℕ, zero, suc, ◌+◌, ◌*◌, ◌/◌, ◌%◌, ◌^◌, ◌≤◌, ◌<◌, List, [], ◌∷◌, ◌++◌, length, take, drop, refl, sym, ◌∙◌, ap, ap₂, pow-suc, lt-ltb, le-ltb, take-append-drop, length-append, lt_of_lt_of_le, lit<, arith, rules}
+use Rattle.std.specs.Fmt as fmt
+use Rattle.std.proofs.lemmas.Fmt.{decimal_by_steps}
 use Rattle.text.specs.Lines.{digits, decimal}
-use Rattle.text.specs.Places.{put}
+use Rattle.text.specs.Places.{Placed}
 
 pub decimal-one : (n : ℕ) → n < 10 → decimal n ≡ (48 + n) ∷ []
 unfolding decimal digits
 decimal-one n l = rw (lt-ltb n 10 l)
 
-digits-longer : (k n : ℕ) → 10 ≤ n → length (digits (suc k) n) ≡ length (digits k (n / 10)) + 1
+-- k + 1 digits that hold n are std's
+abbrev AreDigits : ℕ → List ℕ → Type 0
+AreDigits n ds = (k : ℕ) → n < 10 ^ suc k → digits (suc k) n ≡ ds
+
+one-digit : (n : ℕ) → n < 10 → AreDigits n ((48 + n) ∷ [])
 unfolding digits
-digits-longer k n l = rw (le-ltb n 10 l) (length-append (digits k (n / 10)) ((48 + n % 10) ∷ []))
+one-digit n l k h = rw (lt-ltb n 10 l)
 
--- where k + 1 digits hold n, one more that is allowed adds none
-digits_enough : (k n : ℕ) → n < 10 ^ suc k → digits (suc (suc k)) n ≡ digits (suc k) n
+digit-more : (n : ℕ) (ds : List ℕ) → 10 ≤ n → AreDigits (n / 10) ds → AreDigits n (ds ++ ((48 + n % 10) ∷ []))
 unfolding digits
-digits_enough zero n h = rw (lt-ltb n 10 h)
-digits_enough (suc k) n h =
-    ap (λ t. cond (ltb n 10) ((48 + n) ∷ []) (t ++ ((48 + n % 10) ∷ []))) (digits_enough k (n / 10) (omega (arith, rw (pow-suc 10 (suc k)) at h)))
+digit-more n ds l e zero h = absurd (omega (arith, h))
+digit-more n ds l e (suc k) h =
+    rw (le-ltb n 10 l) (ap (λ t. t ++ ((48 + n % 10) ∷ [])) (e k (omega (arith, rw (pow-suc 10 (suc k)) at h))))
 
-pub decimal-longer : (n : ℕ) → 10 ≤ n → n < 2 ^ 64 → length (decimal n) ≡ length (decimal (n / 10)) + 1
+pub decimal-is : (n : ℕ) → n < 2 ^ 64 → decimal n ≡ fmt.decimal n
 unfolding decimal
-decimal-longer n l h = digits-longer 19 n l ∙ ap (λ t. length t + 1) (sym (digits_enough 18 (n / 10) (omega arith)))
+decimal-is n h = decimal_by_steps AreDigits one-digit digit-more n h 19 (lt_of_lt_of_le h (lit< tt))
 
--- the last i decimal digits of n, zeros before those that it has
-unfoldable pub last_digits : ℕ → ℕ → List ℕ
-last_digits zero n = []
-last_digits (suc i) n = last_digits i (n / 10) ++ ((48 + n % 10) ∷ [])
+digits-width : (k f n : ℕ) → k < f → 10 ^ k ≤ n → n < 10 ^ suc k → length (digits f n) ≡ suc k
+unfolding digits
+digits-width k zero n l m h = absurd (omega arith)
+digits-width zero (suc f) n l m h = rw (lt-ltb n 10 h) refl
+digits-width (suc k) (suc f) n l m h =
+    let least = rw (pow-suc 10 k) at m in
+    let most = rw (pow-suc 10 (suc k)) at h in
+    let some : 0 < 10 ^ k = search rules in
+    rw (le-ltb n 10 (omega arith))
+    (omega (
+      arith,
+      length-append (digits f (n / 10)) ((48 + n % 10) ∷ []),
+      digits-width k f (n / 10) (omega arith) (omega arith) (omega (arith, pow-suc 10 k)),
+    ))
 
-last-length : (i n : ℕ) → length (last_digits i n) ≡ i
-unfolding last_digits
-last-length zero n = refl
-last-length (suc i) n = omega (arith, length-append (last_digits i (n / 10)) ((48 + n % 10) ∷ []), last-length i (n / 10))
-
-digits_last : (k n : ℕ) → digits k n ≡ last_digits (length (digits k n)) n
-unfolding digits last_digits
-digits_last zero n = refl
-digits_last (suc k) n = go (ltb n 10) refl (digits_last k (n / 10))
-  where
-    go : (b : Bool) → ltb n 10 ≡ b → digits k (n / 10) ≡ last_digits (length (digits k (n / 10))) (n / 10)
-        → (let t = cond b ((48 + n) ∷ []) (digits k (n / 10) ++ ((48 + n % 10) ∷ [])) in t ≡ last_digits (length t) n)
-    go true e s = ap (λ d. (48 + d) ∷ []) (sym (mod-eq_of_lt (ltb-true n 10 e)))
-    go false e s = rw (length-append (digits k (n / 10)) ((48 + n % 10) ∷ []), add-one) (ap (λ t. t ++ ((48 + n % 10) ∷ [])) s)
-
-pub decimal-last : (n : ℕ) → decimal n ≡ last_digits (length (decimal n)) n
+-- by the powers of ten between which it lies
+pub decimal-width : (k n : ℕ) → k < 20 → 10 ^ k ≤ n → n < 10 * 10 ^ k → length (decimal n) ≡ k + 1
 unfolding decimal
-decimal-last n = digits_last 20 n
+decimal-width k n l m h = digits-width k 20 n l m (omega (arith, pow-suc 10 k)) ∙ omega arith
 
--- a digit stored, and then those before it put
-pub one-stored : (out : List ℕ) (at i n : ℕ) → 0 < i → at + i ≤ length out
-    → put (set out (at + (i - 1)) (48 + n % 10)) at (last_digits (i - 1) (n / 10)) ≡ put out at (last_digits i n)
-unfolding last_digits
-one-stored out at zero n p l = absurd (omega arith)
-one-stored out at (suc i) n p l =
-    let t = last_digits i (n / 10) in
-    let d = 48 + n % 10 in
-    let rest = drop (suc (at + i)) out in
-    let long : at + length t ≡ at + i = ap (λ k. at + k) (last-length i (n / 10)) in
-    let stored : drop (at + i) (set out (at + i) d) ≡ d ∷ rest =
-    ap (drop (at + i)) (set_split out (at + i) d (omega arith))
-    ∙ drop_at (take (at + i) out) (d ∷ rest) (at + i) (length-take-le (at + i) out (omega arith)) in
-    let same : suc (at + i) ≡ at + length (t ++ (d ∷ [])) = omega (arith, length-append t (d ∷ [])) in
-    rw sub-one
-    (ap₂ (λ a b. a ++ (t ++ b)) (take-set-le at out (at + i) d (omega arith)) (ap (λ k. drop k (set out (at + i) d)) long ∙ stored)
-    ∙ ap (λ a. take at out ++ a) (sym (append_snoc t d rest) ∙ ap (λ k. (t ++ (d ∷ [])) ++ drop k out) same))
+-- digits that were written up to their end
+pub written-placed : (before after ds : List ℕ) (n at start end : ℕ) → n < 2 ^ 64 → end ≡ at + length (decimal n) → ds ≡ fmt.decimal n
+    → start + length ds ≡ end → drop start after ≡ ds ++ drop end before → take start after ≡ take start before
+    → Placed before at (decimal n) after end
+written-placed before after ds n at start end h e d s w t =
+    let same : decimal n ≡ ds = decimal-is n h ∙ sym d in
+    let here : start ≡ at = omega (arith, ap length same) in
+    let whole = sym (take-append-drop start after) ∙ ap₂ ◌++◌ t w in
+    let bytes = whole ∙ ap (λ (i : ℕ). take i before ++ (ds ++ drop end before)) here
+    ∙ ap₂ (λ (u : List ℕ) (i : ℕ). take at before ++ (u ++ drop i before)) (sym same) e in
+    record { bytes = bytes; past = e }

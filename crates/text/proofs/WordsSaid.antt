@@ -1,30 +1,25 @@
 -- The number of a word, byte by byte. Assumes nothing.
-use Rattle.std.proofs.Common.{◌≡◌, ℕ, suc, ◌+◌, ◌*◌, ◌-◌, ◌^◌, ◌≤◌, ◌<◌, cond, ◌&&◌, List, [], ◌∷◌, ltb, length, get_or, drop, ◌∙◌, ap, drop-cons, arith, lt-ltb, le-ltb, le-leb}
+use Rattle.std.proofs.Common.{◌≡◌, ℕ, suc, ◌+◌, ◌*◌, ◌-◌, ◌^◌, ◌≤◌, ◌<◌, true, false, cond, eqb, ◌&&◌, List, [], ◌∷◌, ltb, length, get_or, drop, refl, sym, ◌∙◌, ap, drop-cons, arith, lt-ltb, le-ltb, le-leb, Option, None, Some}
 use Rattle.std.proofs.Math.Bool.{and-false}
-use Rattle.std.proofs.lemmas.Bool.{lt-leb}
-use Rattle.text.specs.declared.MaybeNumber.{MaybeNumber}
-use Rattle.text.specs.declared.MaybeNumber.TheVariants.{None, Some}
+use Rattle.std.specs.Char.{is_ascii_digit}
+use Rattle.std.proofs.lemmas.Bool.{eqb-true, eqb-false}
 use Rattle.text.specs.Numerals.{numeral, said, number_in}
 
 -- the number of a word whose bytes up to bs are digits that said m
-abbrev pub from : ℕ → List ℕ → MaybeNumber
+abbrev pub from : ℕ → List ℕ → Option ℕ
 from m bs = cond (numeral bs && ltb (said m bs) (2 ^ 64)) (Some (said m bs)) None
 
-pub empty : (w : List ℕ) → length w ≡ 0 → number_in w ≡ None
+pub empty : (w : List ℕ) → true ≡ eqb (length w) 0 → None ≡ number_in w
 unfolding number_in
-empty w e = rw e
+empty w e = let none : length w ≡ 0 = eqb-true (length w) 0 (sym e) in rw none refl
 
-pub start : (w : List ℕ) → 0 < length w → number_in w ≡ from 0 w
+pub start : (w : List ℕ) → false ≡ eqb (length w) 0 → number_in w ≡ from 0 w
 unfolding number_in
-start w h = rw (lt-ltb 0 (length w) h)
+start w e = rw (lt-ltb 0 (length w) (omega (arith, eqb-false (length w) 0 (sym e)))) refl
 
-pub low : (m b : ℕ) (bs : List ℕ) → b < 48 → from m (b ∷ bs) ≡ None
+pub other : (m b : ℕ) (bs : List ℕ) → false ≡ is_ascii_digit b → from m (b ∷ bs) ≡ None
 unfolding numeral
-low m b bs l = rw (lt-leb 48 b l)
-
-pub high : (m b : ℕ) (bs : List ℕ) → 57 < b → from m (b ∷ bs) ≡ None
-unfolding numeral
-high m b bs l = rw (le-leb 48 b (omega arith), lt-leb b 57 l)
+other m b bs e = ap (λ t. cond (t && numeral bs && ltb (said m (b ∷ bs)) (2 ^ 64)) (Some (said m (b ∷ bs))) None) (sym e)
 
 said-least : (m : ℕ) (bs : List ℕ) → m ≤ said m bs
 unfolding said

@@ -1,9 +1,7 @@
 -- Numbers that are read from text. Assumes nothing.
-use Rattle.std.specs.Prelude.{ℕ, zero, suc, ◌+◌, ◌*◌, ◌-◌, ◌/◌, ◌%◌, ◌^◌, ◌<◌, Bool, true, false, cond, ◌&&◌, ◌≡◌, refl, List, [], ◌∷◌, ◌++◌, leb, ltb, length}
+use Rattle.std.specs.Prelude.{ℕ, zero, suc, ◌+◌, ◌*◌, ◌-◌, ◌/◌, ◌%◌, ◌^◌, ◌<◌, Bool, true, false, cond, ◌&&◌, ◌≡◌, refl, List, [], ◌∷◌, ◌++◌, leb, ltb, length, Option, None, Some}
 use Rattle.std.proofs.Math.Bool.{and_assoc}
 use Rattle.std.proofs.Common.{sym, pow-suc, lt_of_lt_of_le, arith, lit<, length-append, lt-ltb, le-leb, ltb-true}
-use Rattle.text.specs.declared.MaybeNumber.{MaybeNumber}
-use Rattle.text.specs.declared.MaybeNumber.TheVariants.{None, Some}
 use Rattle.text.specs.Lines.{digits, decimal}
 
 -- whether every byte is a decimal digit
@@ -17,7 +15,7 @@ said m [] = m
 said m (b ∷ bs) = said (m * 10 + (b - 48)) bs
 
 -- the number that a word of digits says, if it is one of 64 bits
-unfoldable pub number_in : List ℕ → MaybeNumber
+unfoldable pub number_in : List ℕ → Option ℕ
 number_in w = cond (ltb 0 (length w) && numeral w && ltb (said 0 w) (2 ^ 64)) (Some (said 0 w)) None
 
 -- ---- what is written is read back

@@ -1,36 +1,12 @@
 -- Text put into a stretch of bytes. Assumes nothing.
-use Rattle.std.specs.Prelude.{ℕ, ◌+◌, ◌≤◌, ◌<◌, Bool, cond, ◌&&◌, ◌≡◌, refl, List, [], ◌++◌, leb, length, take, drop, replicate}
+use Rattle.std.specs.Prelude.{ℕ, ◌+◌, ◌≤◌, ◌<◌, cond, ◌≡◌, refl, List, [], ◌++◌, leb, length, take, drop}
 use Rattle.std.proofs.Common.{sym, ◌∙◌, ap, ap₂, append_assoc, zero-add, add-zero, arith, length-append, take-append-drop, length-take-le, take_at, drop-drop, le-leb}
 use Rattle.std.proofs.Math.Seq.{take-append_seam, drop-append-add}
 use Rattle.std.proofs.lemmas.Bool.{lt-leb}
-use Rattle.text.specs.declared.Line.{Line}
 
 -- t in place of what stands at index `at`
 abbrev pub put : List ℕ → ℕ → List ℕ → List ℕ
 put out at t = take at out ++ (t ++ drop (at + length t) out)
-
--- t in place of what stands at the start
-abbrev pub over : List ℕ → List ℕ → List ℕ
-over out t = put out 0 t
-
--- a line of that text: zeros past it
-abbrev pub line_of : List ℕ → Line
-line_of t = record { bytes = over (replicate 192 0) t; length = length t }
-
--- a line's own text
-abbrev pub text_of : Line → List ℕ
-text_of l = take l.length l.bytes
-
--- the line is whole, and there is room for it at index `at`
-abbrev pub roomy : List ℕ → ℕ → Line → Bool
-roomy out at l = leb l.length 192 && leb (at + l.length) (length out)
-
--- a line put at index `at` where there is room, and the index past it
-abbrev pub appended : List ℕ → ℕ → Line → List ℕ
-appended out at l = cond (roomy out at l) (put out at (text_of l)) out
-
-abbrev pub end_of : List ℕ → ℕ → Line → ℕ
-end_of out at l = cond (roomy out at l) (at + l.length) at
 
 -- t put at index `at` where there are k bytes from there on, and the index past it
 abbrev pub put_within : ℕ → List ℕ → ℕ → List ℕ → List ℕ
@@ -38,6 +14,13 @@ put_within k out at t = cond (leb (at + k) (length out)) (put out at t) out
 
 abbrev pub end_within : ℕ → List ℕ → ℕ → List ℕ → ℕ
 end_within k out at t = cond (leb (at + k) (length out)) (at + length t) at
+
+-- t put at index `at` where it fits, and the index past it
+abbrev pub appended : List ℕ → ℕ → List ℕ → List ℕ
+appended out at t = put_within (length t) out at t
+
+abbrev pub end_of : List ℕ → ℕ → List ℕ → ℕ
+end_of out at t = end_within (length t) out at t
 
 -- text put right after text makes one text of the two
 pub put-put : (out t u : List ℕ) (at : ℕ) → at ≤ length out → put (put out at t) (at + length t) u ≡ put out at (t ++ u)
@@ -65,28 +48,25 @@ placed-then {before} {t} {mid} {u} {after} {at} {m} {end} l p q =
     let both : after ≡ put (put before at t) (at + length t) u = q.bytes ∙ ap₂ (λ xs n. put xs n u) p.bytes p.past in
     record { bytes = both ∙ put-put before t u at l; past = omega (arith, p.past, q.past, length-append t u) }
 
--- a line whose text was put at the start of zeros
-pub line-of : {t bytes : List ℕ} {length' : ℕ} → Placed (replicate 192 0) 0 t bytes length'
-    → record { bytes = bytes; length = length' } ≡ line_of t
-line-of {t} p = ap₂ (λ (b : List ℕ) (n : ℕ). record { bytes = b; length = n }) p.bytes (p.past ∙ zero-add (length t))
+-- text that was put at the start is what stands up to its end
+pub line-of : {before t bytes : List ℕ} {end : ℕ} → Placed before 0 t bytes end → take end bytes ≡ t
+line-of {before} {t} p =
+    ap₂ (λ (n : ℕ) (b : List ℕ). take n b) (p.past ∙ zero-add (length t)) p.bytes ∙ take-append_seam t (drop (0 + length t) before)
 
 -- no text
 pub placed-none : (out : List ℕ) (at : ℕ) → Placed out at [] out at
 placed-none out at =
     record { bytes = sym (ap (λ n. take at out ++ drop n out) (add-zero at) ∙ take-append-drop at out); past = sym (add-zero at) }
 
--- a line that fits is put there
-pub append-placed : (out t : List ℕ) (at : ℕ) → length t ≤ 192 → at + length t ≤ length out
-    → Placed out at t (appended out at (line_of t)) (end_of out at (line_of t))
-append-placed out t at short room =
-    rw (le-leb (length t) 192 short, le-leb (at + length t) (length out) room)
-    (record { bytes = ap (put out at) (take-append_seam t (drop (0 + length t) (replicate 192 0))); past = refl })
+-- text that fits is put there
+pub append-placed : (out t : List ℕ) (at : ℕ) → at + length t ≤ length out → Placed out at t (appended out at t) (end_of out at t)
+append-placed out t at room = rw (le-leb (at + length t) (length out) room) (record { bytes = refl; past = refl })
 
 -- a line of known text put where there is room for k bytes
-pub line-placed : (out t : List ℕ) (at k : ℕ) (l : Line) {after : List ℕ} {end : ℕ} → l ≡ line_of t → length t ≤ k → k ≤ 192
+pub line-placed : (out t : List ℕ) (at k : ℕ) (l : List ℕ) {after : List ℕ} {end : ℕ} → l ≡ t → length t ≤ k
     → at + k ≤ length out → after ≡ appended out at l → end ≡ end_of out at l → Placed out at t after end × (end ≤ at + k)
-line-placed out t at k l {after} {end} e short most room o p =
-    let there = append-placed out t at (omega arith) (omega arith) in
+line-placed out t at k l {after} {end} e short room o p =
+    let there = append-placed out t at (omega arith) in
     let bytes = o ∙ ap (appended out at) e ∙ there.bytes in
     let past = p ∙ ap (end_of out at) e ∙ there.past in
     (record { bytes = bytes; past = past }, omega (arith, past))

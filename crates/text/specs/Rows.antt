@@ -1,9 +1,8 @@
 -- Lines as the requirements write them: numbers in decimal; and the numbers that words say. Assumes nothing.
-use Rattle.std.specs.Prelude.{ℕ, ◌-◌, ◌^◌, refl, List, [], ◌∷◌, ◌++◌, replicate}
+use Rattle.std.specs.Prelude.{◌-◌, ◌^◌, refl, List, [], ◌∷◌, ◌++◌, replicate}
+use Rattle.std.specs.Option.{option_to_list}
 use Rattle.rows.specs.Rows.{Row, row, rows, AllDue}
 use Rattle.text.specs.Ascii.{ascii}
-use Rattle.text.specs.declared.MaybeNumber.{MaybeNumber}
-use Rattle.text.specs.declared.MaybeNumber.TheVariants.{None, Some}
 use Rattle.text.specs.Lines.{digits, decimal, wide_decimal, field, fields, answer_line, numbers_line, pcpu_line, usage_line}
 use Rattle.text.specs.AnswerPlaces.{answer_put, answer_end}
 use Rattle.text.specs.Numerals.{numeral, said, number_in}
@@ -43,20 +42,16 @@ unfolding ascii digits decimal wide_decimal field fields answer_line answer_put 
 lines-due = refl
 
 -- what a word says, and nothing where it says no number
-abbrev numbers : MaybeNumber → List ℕ
-numbers None = []
-numbers (Some n) = n ∷ []
-
 abbrev pub words : List Row
 words =
-    rows (numbers (number_in (ascii "0"))) (0 ∷ [])
-    ∷ rows (numbers (number_in (ascii "007"))) (7 ∷ [])
-    ∷ rows (numbers (number_in (ascii "18446744073709551615"))) ((2 ^ 64 - 1) ∷ [])
+    rows (option_to_list (number_in (ascii "0"))) (0 ∷ [])
+    ∷ rows (option_to_list (number_in (ascii "007"))) (7 ∷ [])
+    ∷ rows (option_to_list (number_in (ascii "18446744073709551615"))) ((2 ^ 64 - 1) ∷ [])
     -- too large, empty, and bytes that are no digits
-    ∷ rows (numbers (number_in (ascii "18446744073709551616"))) []
-    ∷ rows (numbers (number_in (ascii ""))) []
-    ∷ rows (numbers (number_in (ascii "12a"))) []
-    ∷ rows (numbers (number_in (ascii "-1"))) []
+    ∷ rows (option_to_list (number_in (ascii "18446744073709551616"))) []
+    ∷ rows (option_to_list (number_in (ascii ""))) []
+    ∷ rows (option_to_list (number_in (ascii "12a"))) []
+    ∷ rows (option_to_list (number_in (ascii "-1"))) []
     ∷ []
 
 pub words-due : AllDue words

@@ -6,28 +6,21 @@ ghost use Rattle.std.specs.Prelude.{◌≡◌, ◌+◌, ◌/◌, ◌%◌, ◌≤
 ghost use Rattle.service.specs.Service.{value};
 ghost use Rattle.text.specs.Lines.{digits, decimal, wide_decimal, field, fields, numbers_line, pcpu_line, usage_line};
 ghost use Rattle.text.specs.Numerals.{number_in};
-ghost use Rattle.text.specs.Places.{put, Placed, line_of, appended, end_of};
+ghost use Rattle.text.specs.Places.{Placed, appended, end_of};
 ghost use Rattle.text.specs.AnswerPlaces.{answer_put, answer_end};
 
+use arrayvec::ArrayVec;
 use service::Service;
 
 /// The most bytes that what a record is told takes.
 pub const ANSWER_ROOM: usize = 63;
+/// The most bytes that a line holds.
+pub const LINE_ROOM: usize = 192;
 
-/// A line: its text is the first `length` bytes.
-#[derive(Clone, Copy)]
-pub struct Line {
-    pub bytes: [u8; 192],
-    pub length: usize,
-}
+/// The text of a line.
+pub type Line = ArrayVec<u8, LINE_ROOM>;
 
-fn put_text(out: &mut [u8], at: usize, text: &[u8])
-    requires { at + length text.now ≤ length out.old }
-    ensures { out.new ≡ put out.old at text.now }
-{
-    let end = at + text.len();
-    out[at..end].copy_from_slice(text);
-}
+// ---- parts, put at index `at` of a slice: each answers the index past it
 
 fn put_byte(out: &mut [u8], at: usize, b: u8) -> usize
     requires { at < length out.old }
@@ -41,34 +34,24 @@ fn put_byte(out: &mut [u8], at: usize, b: u8) -> usize
 fn width(n: u64) -> usize
     ensures { result ≡ length (decimal n) }
 {
-    let mut left = n;
-    let mut k: usize = 1;
-    while left >= 10 {
-        left = left / 10;
-        k += 1;
+    match n.checked_ilog10() {
+        None => 1,
+        Some(k) => k as usize + 1,
     }
-    k
 }
 
-// Puts n at index `at`, in decimal, and answers the index past it: the last digit first, as division by
-// ten gives them.
 fn put_number(out: &mut [u8], at: usize, n: u64) -> usize
     requires { at + 20 ≤ length out.old }
     ensures placed { Placed out.old at (decimal n) out.new result }
     ensures upper_bound { result ≤ at + 20 }
 {
+    // most numbers have one digit: without this a line for a record takes three times as long
     if n < 10 {
         return put_byte(out, at, b'0' + n as u8);
     }
-    let k = width(n);
-    let mut left = n;
-    let mut i = k;
-    while i > 0 {
-        i -= 1;
-        out[at + i] = b'0' + (left % 10) as u8;
-        left = left / 10;
-    }
-    at + k
+    let end = at + width(n);
+    itoa::write_digits(n, out, end);
+    end
 }
 
 fn put_field(out: &mut [u8], at: usize, n: u64) -> usize
@@ -80,20 +63,15 @@ fn put_field(out: &mut [u8], at: usize, n: u64) -> usize
     put_number(out, past, n)
 }
 
-// Puts the first nine numbers at index `at`, a space before each.
+// The first nine numbers, a space before each.
 fn put_fields(out: &mut [u8], at: usize, numbers: &[u64]) -> usize
     requires { at + 189 ≤ length out.old }
     ensures placed { Placed out.old at (fields (take 9 numbers.now)) out.new result }
     ensures upper_bound { result ≤ at + 189 }
 {
     let mut past = at;
-    let mut i: usize = 0;
-    while i < 9 {
-        if numbers.len() <= i {
-            return past;
-        }
-        past = put_field(out, past, numbers[i]);
-        i += 1;
+    for &n in &numbers[..numbers.len().min(9)] {
+        past = put_field(out, past, n);
     }
     past
 }
@@ -112,7 +90,7 @@ fn tenth(n: Service) -> Service
     service::quotient(n, 10)
 }
 
-// Puts the last of n's decimal digits, at most k of them, at index `at`.
+// The last of n's decimal digits, at most k of them.
 fn put_digits(out: &mut [u8], at: usize, k: usize, n: Service) -> usize
     requires { at + k ≤ length out.old }
     ensures placed { Placed out.old at (digits k (value n)) out.new result }
@@ -137,16 +115,24 @@ fn put_wide(out: &mut [u8], at: usize, n: Service) -> usize
     put_digits(out, at, 39, n)
 }
 
+// The first of some bytes, up to `end`.
+fn line_until(bytes: [u8; LINE_ROOM], end: usize) -> Line
+    ensures { result.items ≡ take end bytes }
+{
+    let mut line = Line::from_array_in((), bytes);
+    line.truncate(end);
+    line
+}
+
+// ---- lines
+
 /// Puts what a record is told at index `at`: its number, the answer and the moves; where there are
 /// not 63 bytes from there on, which is room for any such line, nothing. Answers the index past it.
 pub fn put_answer_line(out: &mut [u8], at: usize, number: u64, answer: u64, moves: u64) -> usize
     ensures out_after { out.new ≡ answer_put out.old at number answer moves }
     ensures value { result ≡ answer_end out.old at number answer moves }
 {
-    if out.len() < ANSWER_ROOM {
-        return at;
-    }
-    if at > out.len() - ANSWER_ROOM {
+    if out.len() < ANSWER_ROOM || out.len() - ANSWER_ROOM < at {
         return at;
     }
     let a = put_number(out, at, number);
@@ -157,92 +143,71 @@ pub fn put_answer_line(out: &mut [u8], at: usize, number: u64, answer: u64, move
 
 /// The first nine of some numbers, a space before each.
 pub fn numbers_line(numbers: &[u64]) -> Line
-    ensures { result ≡ line_of (numbers_line (take 9 numbers.now)) }
+    ensures { result.items ≡ numbers_line (take 9 numbers.now) }
 {
-    let mut bytes = [0u8; 192];
+    let mut bytes = [0u8; LINE_ROOM];
     let a = put_fields(&mut bytes, 0, numbers);
-    let length = put_byte(&mut bytes, a, b'\n');
-    Line { bytes, length }
+    let end = put_byte(&mut bytes, a, b'\n');
+    line_until(bytes, end)
 }
 
 /// An occupied pCPU, marked ` p`, and its holder.
 pub fn pcpu_line(pcpu: u64, dom: u64, vcpu: u64) -> Line
-    ensures { result ≡ line_of (pcpu_line pcpu dom vcpu) }
+    ensures { result.items ≡ pcpu_line pcpu dom vcpu }
 {
-    let mut bytes = [0u8; 192];
+    let mut bytes = [0u8; LINE_ROOM];
     let a = put_byte(&mut bytes, 0, b' ');
     let b = put_byte(&mut bytes, a, b'p');
     let c = put_field(&mut bytes, b, pcpu);
     let d = put_field(&mut bytes, c, dom);
     let e = put_field(&mut bytes, d, vcpu);
-    let length = put_byte(&mut bytes, e, b'\n');
-    Line { bytes, length }
+    let end = put_byte(&mut bytes, e, b'\n');
+    line_until(bytes, end)
 }
 
 /// What a usage file says of a vCPU: whose it is, its weight and its service.
 pub fn usage_line(domain: u64, vcpu: u64, weight: u64, service: Service) -> Line
-    ensures { result ≡ line_of (usage_line domain vcpu weight (value service)) }
+    ensures { result.items ≡ usage_line domain vcpu weight (value service) }
 {
-    let mut bytes = [0u8; 192];
+    let mut bytes = [0u8; LINE_ROOM];
     let a = put_number(&mut bytes, 0, domain);
     let b = put_field(&mut bytes, a, vcpu);
     let c = put_field(&mut bytes, b, weight);
     let d = put_byte(&mut bytes, c, b' ');
     let e = put_wide(&mut bytes, d, service);
-    let length = put_byte(&mut bytes, e, b'\n');
-    Line { bytes, length }
+    let end = put_byte(&mut bytes, e, b'\n');
+    line_until(bytes, end)
 }
 
 /// Puts a line at index `at`, if it fits there, and answers the index past it.
-pub fn append(out: &mut [u8], at: usize, line: Line) -> usize
-    ensures out_after { out.new ≡ appended out.old at line }
-    ensures value { result ≡ end_of out.old at line }
+pub fn append(out: &mut [u8], at: usize, line: &[u8]) -> usize
+    ensures out_after { out.new ≡ appended out.old at line.now }
+    ensures value { result ≡ end_of out.old at line.now }
 {
-    let n = line.length;
-    let bytes = line.bytes;
-    if 192 < n {
+    let n = line.len();
+    if out.len() < at || out.len() - at < n {
         return at;
     }
-    if out.len() < at {
-        return at;
-    }
-    if out.len() - at < n {
-        return at;
-    }
-    put_text(out, at, &bytes[..n]);
+    out[at..at + n].copy_from_slice(line);
     at + n
 }
 
-/// A number, or none.
-#[derive(Clone, Copy)]
-pub enum MaybeNumber {
-    None,
-    Some(u64),
-}
+// ---- words
 
 /// The number that a word of decimal digits says, if it is one of 64 bits; leading zeros are fine.
-pub fn number_in(word: &[u8]) -> MaybeNumber
+// std's `parse` takes a sign, which is no digit
+pub fn number_in(word: &[u8]) -> Option<u64>
     ensures { result ≡ number_in word.now }
 {
-    if word.len() == 0 {
-        return MaybeNumber::None;
+    if word.is_empty() {
+        return None;
     }
     let mut n: u64 = 0;
-    let mut i: usize = 0;
-    while i < word.len() {
-        let b = word[i];
-        if b < b'0' {
-            return MaybeNumber::None;
+    for &b in word {
+        if !b.is_ascii_digit() {
+            return None;
         }
-        if b'9' < b {
-            return MaybeNumber::None;
-        }
-        let digit = (b - b'0') as u64;
-        if (u64::MAX - digit) / 10 < n {
-            return MaybeNumber::None;
-        }
-        n = n * 10 + digit;
-        i += 1;
+        n = n.checked_mul(10)?.checked_add((b - b'0') as u64)?;
     }
-    MaybeNumber::Some(n)
+    Some(n)
 }

@@ -2,16 +2,15 @@
 
 #![tactic(auto)]
 
+use play::Words;
+
 fn main(rt: HostRuntime) {
     // the bytes of 40 records, and room for their text
     let mut input = [0u8; 800];
     let mut output = [0u8; 1148000];
-    play::to_end(
-        &rt,
-        &mut input,
-        &mut output,
-        true,
-        b"trace: standard input cannot be read\n",
-        b"trace: standard output takes no more\n",
-    );
+    let words = Words {
+        unread: b"trace: standard input cannot be read\n",
+        untaken: b"trace: standard output takes no more\n",
+    };
+    play::to_end(&rt, &mut input, &mut output, true, words);
 }

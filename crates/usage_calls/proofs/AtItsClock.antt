@@ -1,4 +1,5 @@
 -- A call leaves what every domain used up to the call's own clock as it was. Assumes nothing.
+use Rattle.std.specs.Prelude.{Result, Ok, Err}
 use Prim.Native.Nat.{ℕ, zero, suc, ◌/◌, ◌%◌, ◌≤◌, ◌<◌, min}
 use mathlib.Core.Bool.{Bool, true, false, cond}
 use mathlib.Core.Path.{◌≡◌, refl, ◌∙◌, ap₂}
@@ -11,6 +12,7 @@ use Rattle.system.specs.declared.VirtualCpu.{VirtualCpu}
 use Rattle.system.specs.declared.Occupant.{Occupant}
 use Rattle.system.specs.declared.Occupant.TheVariants.{Vcpu}
 use Rattle.system.specs.declared.System.{System}
+use Rattle.system.specs.declared.Answer.{Answer}
 use Rattle.system.specs.declared.Answer.TheVariants.{PcpuBusy}
 use Rattle.system.specs.Reads.{vcpu_at, occupant_at, is_idle, vcpu_count}
 use Rattle.system.specs.Slots.{domains, vcpus, slot, slot-below}
@@ -19,7 +21,7 @@ use Rattle.verdict.specs.Violations.{invariants_hold}
 use Rattle.verdict.specs.Sound.{sound_iff}
 use Rattle.calls.specs.declared.Request.{Request}
 use Rattle.changes.specs.declared.Change.{Change}
-use Rattle.changes.specs.declared.Change.TheVariants.{Refuse, Write, Enter, Leave}
+use Rattle.changes.specs.declared.Change.TheVariants.{Write, Enter, Leave}
 use Rattle.sched.specs.Steps.{applied, done, tested, requested, offline_first, offline_all}
 use Rattle.sched.proofs.Laws.{requested_case, offline-all_case}
 use Rattle.moves.specs.declared.Choice.{Choice}
@@ -68,16 +70,16 @@ module _ (c : ℕ) (s : System) (t : Tables s) where
   unfolding vcpu_at put_occupant
   occupied {s'} p o k = record { shape = shape-trans k.shape (occupant-shape s' p o); time = k.time }
 
-  applied-kept : (i : ℕ) → i < 128 → (x : Change) → Timed c (vcpu_at s i) x → Kept c s (applied s i x).system
+  applied-kept : (i : ℕ) → i < 128 → (x : Result Change Answer) → Timed c (vcpu_at s i) x → Kept c s (applied s i x).system
   unfolding applied
-  applied-kept i l (Refuse a) k = unchanged c s
-  applied-kept i l (Write v) k = wrote i v l k
-  applied-kept i l (Enter v p) k = go (is_idle (occupant_at s p))
+  applied-kept i l (Err a) k = unchanged c s
+  applied-kept i l (Ok (Write v)) k = wrote i v l k
+  applied-kept i l (Ok (Enter v p)) k = go (is_idle (occupant_at s p))
     where
       go : (b : Bool) → Kept c s (tested b PcpuBusy s (done (put_occupant (put_vcpu s i v) p (Vcpu (i / 8) (i % 8))))).system
       go true = occupied p _ (wrote i v l k)
       go false = unchanged c s
-  applied-kept i l (Leave v p) k = occupied p _ (wrote i v l k)
+  applied-kept i l (Ok (Leave v p)) k = occupied p _ (wrote i v l k)
 
   -- ---- a call of the mechanism
 

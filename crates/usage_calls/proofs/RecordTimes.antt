@@ -1,4 +1,5 @@
 -- What a request at clock c does to its vCPU's record leaves how long the vCPU has run up to c as it was. Assumes nothing.
+use Rattle.std.specs.Prelude.{Result, Ok, Err}
 use Prim.Native.Nat.{ℕ, ◌+◌, ◌-◌, ◌^◌, ◌≤◌, ◌<◌, min}
 use mathlib.Core.Bool.{Bool, true, false, cond}
 use mathlib.Core.Path.{◌≡◌, refl, sym, ap, subst}
@@ -7,11 +8,12 @@ use Rattle.masks.specs.Masks.{permits, full_mask, clipped}
 use Rattle.system.specs.declared.RunState.{RunState}
 use Rattle.system.specs.declared.RunState.TheVariants.{Offline, Runnable, Running, Blocked}
 use Rattle.system.specs.declared.VirtualCpu.{VirtualCpu}
+use Rattle.system.specs.declared.Answer.{Answer}
 use Rattle.system.specs.declared.Answer.TheVariants.{NotAffine}
 use Rattle.system.specs.Records.{with_mask, elapsed, flight, in_flight, runtime_until}
 use Rattle.calls.specs.declared.Request.{Request}
 use Rattle.changes.specs.declared.Change.{Change}
-use Rattle.changes.specs.declared.Change.TheVariants.{Refuse, Write, Enter, Leave}
+use Rattle.changes.specs.declared.Change.TheVariants.{Write, Enter, Leave}
 use Rattle.changes.specs.Changes.{admitted, ran, preempted, blocked, woken, masked, offlined, changed}
 use Rattle.changes.specs.Records.{dispatched, left}
 use Rattle.usage_calls.specs.AtItsClock.{AtRequest}
@@ -21,11 +23,11 @@ abbrev pub KeepsTime : ℕ → VirtualCpu → VirtualCpu → Type 0
 KeepsTime c v w = (runtime_until w c ≤ runtime_until v c) × (runtime_until v c < 2 ^ 64 → runtime_until w c ≡ runtime_until v c)
 
 -- and so has the record that a change leaves
-abbrev pub Timed : ℕ → VirtualCpu → Change → Type 0
-Timed c v (Refuse a) = Unit {0}
-Timed c v (Write w) = KeepsTime c v w
-Timed c v (Enter w p) = KeepsTime c v w
-Timed c v (Leave w p) = KeepsTime c v w
+abbrev pub Timed : ℕ → VirtualCpu → Result Change Answer → Type 0
+Timed c v (Err a) = Unit {0}
+Timed c v (Ok (Write w)) = KeepsTime c v w
+Timed c v (Ok (Enter w p)) = KeepsTime c v w
+Timed c v (Ok (Leave w p)) = KeepsTime c v w
 
 alike : {m n : ℕ} → m ≡ n → (m ≤ n) × (n < 2 ^ 64 → m ≡ n)
 alike e = (omega (arith, e), λ h. e)
@@ -54,7 +56,7 @@ module _ (c : ℕ) (v : VirtualCpu) where
   ran-timed p Offline e = tt
   ran-timed p Runnable e = go (permits v.affinity p)
     where
-      go : (b : Bool) → Timed c v (cond b (Enter (dispatched v p c) p) (Refuse NotAffine))
+      go : (b : Bool) → Timed c v (cond b (Ok (Enter (dispatched v p c) p)) (Err NotAffine))
       go true = alike (omega (arith, found e))
       go false = tt
   ran-timed p (Running q) e = tt
@@ -90,7 +92,7 @@ module _ (c : ℕ) (v : VirtualCpu) where
   masked-timed m Runnable = remasked m
   masked-timed m (Running p) = go (permits m p)
     where
-      go : (b : Bool) → Timed c v (cond b (Write (with_mask v m)) (Refuse NotAffine))
+      go : (b : Bool) → Timed c v (cond b (Ok (Write (with_mask v m))) (Err NotAffine))
       go true = remasked m
       go false = tt
   masked-timed m Blocked = remasked m

@@ -6,25 +6,32 @@
 
 #![tactic(auto)]
 
-ghost use Rattle.std.specs.Prelude.{◌≤◌};
-
 use records::RECORD;
 use script::Script;
-use std::env::{Env, FillError};
+use std::env::Env;
 use std::io::Print;
+use streams::arguments;
 use system::{Answer, MAX_DOMAINS};
-use text::MaybeNumber;
-use usage_write::Written;
 
-// What is asked for.
+// What is asked for; a read with no domain is of all.
 #[derive(Clone, Copy)]
 enum Request {
     Write { reading: u64 },
-    Read,
-    ReadDomain { domain: u64 },
+    Read { domain: Option<usize> },
+}
+
+// Why it is not done.
+#[derive(Clone, Copy)]
+enum Refusal {
     Misused,
     NoReading,
     NoDomain,
+    UnreadScript,
+    NoCall { record: u64, cut_off: bool },
+    NoHost,
+    UnreadFile,
+    BadFile,
+    NotInFile,
 }
 
 // ---- words
@@ -36,256 +43,167 @@ fn misused(rt: &HostRuntime) {
     );
 }
 
-fn no_reading(rt: &HostRuntime) {
+fn misused_with(rt: &HostRuntime, words: &[u8]) {
     misused(rt);
-    streams::say(rt, b"usage_file: READING is not a number below 2^64\n");
+    streams::say(rt, words);
 }
 
-fn no_domain(rt: &HostRuntime) {
-    misused(rt);
-    streams::say(rt, b"usage_file: DOMAIN is not a number below 2^64\n");
-}
-
-fn bad_file(rt: &HostRuntime) {
-    streams::say(rt, b"13 BadFile: not a usage file\n");
-}
-
-fn not_in_file(rt: &HostRuntime) {
-    streams::say(rt, b"14 NotInFile: the usage file has no such domain\n");
-}
-
-// Whether all of it was written.
-fn put(rt: &HostRuntime, bytes: &[u8]) -> bool {
-    streams::put(rt, bytes, b"usage_file: standard output takes no more\n")
-}
-
-// ---- arguments
-
-fn is_word(word: &[u8], text: &[u8]) -> bool {
-    if word.len() != text.len() {
-        return false;
-    }
-    let mut i: usize = 0;
-    while i < word.len() {
-        if word[i] != text[i] {
-            return false;
-        }
-        i += 1;
-    }
-    true
-}
-
-// How many there are before `most`, the program's own name among them.
-fn argument_count(rt: &HostRuntime, most: usize) -> usize {
-    let mut word = [0u8; 1];
-    for i in 0..most {
-        if matches!(rt.arg(i, &mut word), Err(FillError::NotPresent)) {
-            return i;
-        }
-    }
-    most
-}
-
-// The number that argument 2 says.
-fn second_argument(rt: &HostRuntime) -> MaybeNumber {
-    let mut word = [0u8; 32];
-    let n = rt.arg(2, &mut word).unwrap_or(0);
-    text::number_in(&word[..n])
-}
-
-fn to_write(rt: &HostRuntime) -> Request {
-    let number = second_argument(rt);
-    match number {
-        MaybeNumber::None => Request::NoReading,
-        MaybeNumber::Some(reading) => Request::Write { reading },
-    }
-}
-
-fn to_read(rt: &HostRuntime) -> Request {
-    let number = second_argument(rt);
-    match number {
-        MaybeNumber::None => Request::NoDomain,
-        MaybeNumber::Some(domain) => Request::ReadDomain { domain },
-    }
-}
-
-fn asked(rt: &HostRuntime) -> Request {
-    let mut word = [0u8; 8];
-    let n = rt.arg(1, &mut word).unwrap_or(0);
-    let count = argument_count(rt, 4);
-    if is_word(&word[..n], b"write") {
-        if count == 3 {
-            return to_write(rt);
-        }
-    }
-    if is_word(&word[..n], b"read") {
-        if count == 2 {
-            return Request::Read;
-        }
-        if count == 3 {
-            return to_read(rt);
-        }
-    }
-    Request::Misused
-}
-
-// ---- write
-
-// A script under way, whether there may be more of it, and whether it makes no bill; then that was said.
-#[derive(Clone, Copy)]
-struct Turn {
-    script: Script,
-    more: bool,
-    refused: bool,
-}
-
-// Says which of these records, the first of them numbered `number` + 1, is no call; false where all are calls.
-fn says_no_call(rt: &HostRuntime, number: u64, bytes: usize, records: usize, first: usize) -> bool {
-    if first >= records {
-        return false;
-    }
+fn no_call(rt: &HostRuntime, record: u64, cut_off: bool) {
     streams::say(rt, b"9 BadScript: record ");
     // where standard error takes nothing, nobody can be told
-    let _ = rt
-        .stderr()
-        .print(number.wrapping_add(first as u64).wrapping_add(1));
-    if first == bytes / RECORD {
+    let _ = rt.stderr().print(record);
+    if cut_off {
         streams::say(rt, b" is cut off\n");
     } else {
         streams::say(rt, b" is no call, or comes before any host is built\n");
     }
-    true
 }
 
-fn says_unread(rt: &HostRuntime, failed: bool) -> bool {
-    if failed {
-        streams::say(rt, b"9 BadScript: standard input cannot be read\n");
+fn refused(rt: &HostRuntime, refusal: Refusal) {
+    match refusal {
+        Refusal::Misused => misused(rt),
+        Refusal::NoReading => misused_with(rt, b"usage_file: READING is not a number below 2^64\n"),
+        Refusal::NoDomain => misused_with(rt, b"usage_file: DOMAIN is not a number below 2^64\n"),
+        Refusal::UnreadScript => {
+            streams::say(rt, b"9 BadScript: standard input cannot be read\n");
+        }
+        Refusal::NoCall { record, cut_off } => no_call(rt, record, cut_off),
+        Refusal::NoHost => streams::say(rt, b"9 BadScript: the script builds no host\n"),
+        Refusal::UnreadFile => {
+            streams::say(rt, b"13 BadFile: standard input cannot be read\n");
+        }
+        Refusal::BadFile => streams::say(rt, b"13 BadFile: not a usage file\n"),
+        Refusal::NotInFile => {
+            streams::say(rt, b"14 NotInFile: the usage file has no such domain\n");
+        }
     }
-    failed
 }
 
-fn stretch(rt: &HostRuntime, s: Script, input: &mut [u8], output: &mut [u8]) -> Turn {
+fn put(rt: &HostRuntime, bytes: &[u8]) {
+    streams::put(rt, bytes, b"usage_file: standard output takes no more\n");
+}
+
+// ---- arguments
+
+fn asked(rt: &HostRuntime) -> Result<Request, Refusal> {
+    let mut word = [0u8; 8];
+    let n = rt.arg(1, &mut word).unwrap_or(0);
+    let count = arguments::count(rt, 4);
+    match &word[..n] {
+        b"write" if count == 3 => {
+            let reading = arguments::number(rt, 2).ok_or(Refusal::NoReading)?;
+            Ok(Request::Write { reading })
+        }
+        b"read" if count == 2 => Ok(Request::Read { domain: None }),
+        b"read" if count == 3 => {
+            let domain = arguments::number(rt, 2).ok_or(Refusal::NoDomain)?;
+            Ok(Request::Read {
+                domain: Some(domain as usize),
+            })
+        }
+        _ => Err(Refusal::Misused),
+    }
+}
+
+// ---- write
+
+// Whether there may be more of the script.
+fn stretch(
+    rt: &HostRuntime,
+    script: &mut Script,
+    input: &mut [u8],
+    output: &mut [u8],
+) -> Result<bool, Refusal> {
     let got = streams::read(rt, input);
-    let bytes = got.bytes;
-    let first = script::first_no_call(s.built, &input[..bytes]);
-    let number = s.number;
-    let taken = script::replay(s, &input[..bytes], output, false);
-    let script = taken.script;
-    let mut refused = says_unread(rt, got.failed);
-    if !refused {
-        refused = says_no_call(rt, number, bytes, taken.records, first);
+    let bytes = &input[..got.bytes];
+    let first = script::first_no_call(script.built, bytes);
+    let number = script.number;
+    let taken = script.replay(bytes, output, false);
+    if got.error.is_some() {
+        return Err(Refusal::UnreadScript);
     }
-    Turn {
-        script,
-        more: (bytes == input.len()) & !refused,
-        refused,
+    if first < taken.records {
+        return Err(Refusal::NoCall {
+            record: number.wrapping_add(first as u64).wrapping_add(1),
+            cut_off: first == bytes.len() / RECORD,
+        });
     }
+    Ok(bytes.len() == input.len())
 }
 
 // The script on standard input, played to its end; nobody reads its lines.
-fn played(rt: &HostRuntime) -> Turn {
+fn play(rt: &HostRuntime, script: &mut Script) -> Result<(), Refusal> {
     // the bytes of 1000 records, and room for their lines
     let mut input = [0u8; 20000];
     let mut output = [0u8; 63000];
-    let mut s = Script::new();
     // a proved loop has to end, and nothing says that the input does
-    let mut turns = u64::MAX;
-    while turns > 0 {
-        let turned = stretch(rt, s, &mut input, &mut output);
-        if !turned.more {
-            return turned;
+    for _ in 0..u64::MAX {
+        if !stretch(rt, script, &mut input, &mut output)? {
+            break;
         }
-        s = turned.script;
-        turns -= 1;
     }
-    Turn {
-        script: s,
-        more: true,
-        refused: false,
-    }
+    Ok(())
 }
 
-fn put_file(rt: &HostRuntime, file: Written)
-    requires { file.length ≤ 2662 }
-{
-    let bytes = file.bytes;
-    let n = file.length;
-    put(rt, &bytes[..n]);
-}
-
-fn write_file(rt: &HostRuntime, reading: u64) {
-    let p = played(rt);
-    if p.refused {
-        return;
+fn write_file(rt: &HostRuntime, reading: u64) -> Result<(), Refusal> {
+    let mut script = Script::new();
+    play(rt, &mut script)?;
+    if !script.built {
+        return Err(Refusal::NoHost);
     }
-    let s = p.script;
-    if !s.built {
-        streams::say(rt, b"9 BadScript: the script builds no host\n");
-        return;
-    }
-    let h = s.host;
-    let system = h.system;
-    let policy = h.scheduler;
-    put_file(rt, usage_write::write(system, policy, reading));
+    let host = &script.host;
+    let file = usage_write::write(&host.system, &host.scheduler, reading);
+    put(rt, file.as_slice());
+    Ok(())
 }
 
 // ---- read
 
-fn put_domain(rt: &HostRuntime, file: &[u8], domain: usize) -> bool {
+fn put_domain(rt: &HostRuntime, file: &[u8], domain: usize) -> Result<(), Refusal> {
+    match usage_read::answer_of(file, domain) {
+        Answer::BadFile => return Err(Refusal::BadFile),
+        Answer::NotInFile => return Err(Refusal::NotInFile),
+        _ => {}
+    }
     let text = usage_text::body_text(domain as u64, usage_read::body_of(file, domain));
-    let bytes = text.bytes;
-    let n = text.length;
-    put(rt, &bytes[..n])
+    put(rt, text.as_slice());
+    Ok(())
 }
 
 // One reader answers for each domain.
-fn read_all(rt: &HostRuntime, file: &[u8]) {
-    let text = usage_read::text_of(file, MAX_DOMAINS);
-    if text.count == usage_parse::REFUSED {
-        bad_file(rt);
-        return;
+fn put_all(rt: &HostRuntime, file: &[u8]) -> Result<(), Refusal> {
+    let all = usage_read::text_of(file, MAX_DOMAINS);
+    if all.count.is_none() {
+        return Err(Refusal::BadFile);
     }
-    let bytes = text.bytes;
-    let n = text.length;
-    put(rt, &bytes[..n]);
-}
-
-fn read_one(rt: &HostRuntime, file: &[u8], domain: usize) {
-    let told = usage_read::answer_of(file, domain);
-    if told == system::number_of(Answer::BadFile) {
-        bad_file(rt);
-    } else if told == system::number_of(Answer::NotInFile) {
-        not_in_file(rt);
-    } else {
-        put_domain(rt, file, domain);
-    }
+    put(rt, all.text.as_slice());
+    Ok(())
 }
 
 // A usage file on standard input: what is asked of it.
-fn read_file(rt: &HostRuntime, all: bool, domain: usize) {
+fn read_file(rt: &HostRuntime, domain: Option<usize>) -> Result<(), Refusal> {
     // a byte more than the largest file has, so that a longer one is seen to be longer
-    let mut input = [0u8; 2663];
+    let mut input = [0u8; usage_write::ROOM + 1];
     let got = streams::read(rt, &mut input);
-    let n = got.bytes;
-    if got.failed {
-        streams::say(rt, b"13 BadFile: standard input cannot be read\n");
-        return;
+    if got.error.is_some() {
+        return Err(Refusal::UnreadFile);
     }
-    if all {
-        read_all(rt, &input[..n]);
-    } else {
-        read_one(rt, &input[..n], domain);
+    let file = &input[..got.bytes];
+    match domain {
+        Some(domain) => put_domain(rt, file, domain),
+        None => put_all(rt, file),
+    }
+}
+
+fn answered(rt: &HostRuntime) -> Result<(), Refusal> {
+    match asked(rt)? {
+        Request::Write { reading } => write_file(rt, reading),
+        Request::Read { domain } => read_file(rt, domain),
     }
 }
 
 fn main(rt: HostRuntime) {
-    let request = asked(&rt);
-    match request {
-        Request::Write { reading } => write_file(&rt, reading),
-        Request::Read => read_file(&rt, true, 0),
-        Request::ReadDomain { domain } => read_file(&rt, false, domain as usize),
-        Request::Misused => misused(&rt),
-        Request::NoReading => no_reading(&rt),
-        Request::NoDomain => no_domain(&rt),
+    if let Err(refusal) = answered(&rt) {
+        refused(&rt, refusal);
     }
 }

@@ -1,21 +1,19 @@
--- A loop that leaves at the first number that fails tells whether all below n pass. Assumes nothing.
-use Prim.Native.Nat.{ℕ, zero, suc, ◌+◌, ◌<◌}
-use mathlib.Core.Bool.{Bool, true, false, ◌&&◌, and-false}
-use mathlib.Core.Path.{◌≡◌, ap, ◌∙◌, sym}
-use native.Mathlib.Decide.{ℕ_discrete}
-use native.Mathlib.Numerals.{add-one}
-use native.Mathlib.Omega.{arith}
+-- `all` over the numbers below n tells whether each of them passes. Assumes nothing.
+use Rattle.std.proofs.Common.{ℕ, zero, suc, ◌+◌, Bool, ◌&&◌, List, [], ◌∷◌, ◌++◌, ◌≡◌, refl, ap, ap₂, ◌∙◌, arith}
+use mathlib.Core.Bool.{and-true}
+use Rattle.std.specs.List.{range_with_len, list_all}
+use Rattle.std.proofs.lemmas.List.Folds.{list_all-append}
 use Rattle.usage_layout.specs.Reading.{all}
 
-pub all_more : (i : ℕ) (passes : ℕ → Bool) → all i passes ≡ true → passes i ≡ true → all (i + 1) passes ≡ true
-unfolding all
-all_more i passes before here = rw (add-one, before, here)
+range-more : (a n : ℕ) → range_with_len a (suc n) ≡ range_with_len a n ++ (a + n) ∷ []
+range-more a zero = ap (λ (x : ℕ). x ∷ []) (omega arith)
+range-more a (suc n) =
+    let end : a + 1 + n ≡ a + suc n = omega arith in
+    ap (λ (l : List ℕ). a ∷ l) (range-more (a + 1) n ∙ ap (λ (x : ℕ). range_with_len (a + 1) n ++ x ∷ []) end)
 
-pub one-fails : (n : ℕ) (passes : ℕ → Bool) (i : ℕ) → i < n → passes i ≡ false → all n passes ≡ false
+pub all-below : (n : ℕ) (passes : ℕ → Bool) → list_all passes (range_with_len 0 n) ≡ all n passes
 unfolding all
-one-fails zero passes i l e = absurd (omega arith)
-one-fails (suc n) passes i l e = go (λ k. one-fails n passes i k e) (ℕ_discrete i n)
-  where
-    go : (i < n → all n passes ≡ false) → Dec (i ≡ n) → (all n passes && passes n) ≡ false
-    go before (yes q) = rw (ap passes (sym q) ∙ e) (and-false (all n passes))
-    go before (no q) = rw (before (omega arith))
+all-below zero passes = refl
+all-below (suc n) passes =
+    ap (list_all passes) (range-more 0 n) ∙ list_all-append passes (range_with_len 0 n) ((0 + n) ∷ [])
+    ∙ ap₂ (λ (s t : Bool). s && t) (all-below n passes) (and-true (passes (0 + n)) ∙ ap passes (omega arith))

@@ -7,9 +7,10 @@ use borrow.Author.Tests.{ltb-true, le-leb}
 use lib.Dec.{leb, ltb}
 use lib.ListN.{length}
 use Rattle.usage_layout.specs.Reading.{accepted, domains_in, offset_in, vcpus_in, body_in, refused_count, count_of}
+use Rattle.std.specs.Prelude.{Some, None, unwrap_or}
 use Rattle.usage_layout.proofs.Laws.{accepted-parts}
-use Rattle.usage_parse.specs.Domains.{answer_of, has_body, start_of, answer_at, names_body, start_at}
-use Rattle.usage_parse.specs.DomainLaws.{ToldByTheCount, GivenByTheCount, PlacedByTheCount}
+use Rattle.usage_parse.specs.Domains.{answer_of, has_body, start_of, count_in, answer_at, names_body, start_at}
+use Rattle.usage_parse.specs.DomainLaws.{ToldByTheCount, GivenByTheCount, PlacedByTheCount, CountedAsANumber}
 
 -- whether the line and the body of domain d lie within the bytes
 abbrev within : List ℕ → ℕ → Bool
@@ -30,26 +31,34 @@ few-domains : (s : List ℕ) → accepted s ≡ true → leb (domains_in s) 16 �
 few-domains s e = le-leb _ _ (accepted-parts s e).shape.domains
 
 pub answer-of : ToldByTheCount
-unfolding count_of
+unfolding count_in
 answer-of s d = go (accepted s) refl
   where
-    go : (t : Bool) → accepted s ≡ t → answer_at (cond t (domains_in s) refused_count) d ≡ answer_of s d
+    go : (t : Bool) → accepted s ≡ t → answer_at (cond t (Some (domains_in s)) None) d ≡ answer_of s d
     go true e = simp (e, few-domains s e)
     go false e = simp e
 
-names-body : (s : List ℕ) (d : ℕ) → names_body s (count_of s) d ≡ has_body s d
-unfolding count_of
+names-body : (s : List ℕ) (d : ℕ) → names_body s (count_in s) d ≡ has_body s d
+unfolding count_in
 names-body s d = go (accepted s) refl
   where
-    go : (t : Bool) → accepted s ≡ t → names_body s (cond t (domains_in s) refused_count) d ≡ (t && ltb d (domains_in s))
+    go : (t : Bool) → accepted s ≡ t → names_body s (cond t (Some (domains_in s)) None) d ≡ (t && ltb d (domains_in s))
     go true e = simp (few-domains s e) (accepted-within s d e)
     go false e = refl
 
 pub stretch-of : GivenByTheCount
 stretch-of s d = ap (λ t. cond t (body_in s d) []) (names-body s d)
 
-start-of : (s : List ℕ) (d : ℕ) → start_at s (count_of s) d ≡ start_of s d
+start-of : (s : List ℕ) (d : ℕ) → start_at s (count_in s) d ≡ start_of s d
 start-of s d = ap (λ t. cond t (offset_in s d) 0) (names-body s d)
 
 pub place-of : PlacedByTheCount
 place-of s d = ap (λ from. (s.ref_ptr.0, from + s.ref_ptr.1)) (start-of s.now d)
+
+pub count-of : CountedAsANumber
+unfolding count_in count_of
+count-of s = go (accepted s)
+  where
+    go : (t : Bool) → unwrap_or (cond t (Some (domains_in s)) None) refused_count ≡ cond t (domains_in s) refused_count
+    go true = refl
+    go false = refl

@@ -1,5 +1,5 @@
 -- What is told of a domain of a usage file, its body as a stretch of the file, and a vCPU's figures in a body.
-use Rattle.std.specs.Prelude.{Bool, cond, ◌&&◌, List, [], ℕ, ◌+◌, ◌*◌, ◌/◌, leb, ltb, length}
+use Rattle.std.specs.Prelude.{Bool, false, Option, None, Some, cond, ◌&&◌, List, [], ℕ, ◌+◌, ◌*◌, ◌/◌, leb, ltb, length}
 use Rattle.std.specs.Borrow.{Bor}
 use Rattle.system.specs.declared.Answer.{Answer}
 use Rattle.system.specs.declared.Answer.TheVariants.{Done, BadFile, NotInFile}
@@ -24,23 +24,29 @@ start_of s d = cond (has_body s d) (offset_in s d) 0
 abbrev pub place_of : Bor (List ℕ) → ℕ → ℕ × ℕ
 place_of s d = (s.ref_ptr.0, start_of s.now d + s.ref_ptr.1)
 
--- ---- the same by a count that is kept beside the file: `count_of` of it, which is above 16 where it is not accepted
+-- ---- the same by a count that is kept beside the file: that of its domains, where it is accepted
 
-abbrev pub answer_at : ℕ → ℕ → Answer
-answer_at count d = cond (leb count 16) (cond (ltb d count) Done NotInFile) BadFile
+unfoldable pub count_in : List ℕ → Option ℕ
+count_in s = cond (accepted s) (Some (domains_in s)) None
+
+-- a count above 16 is no file's
+abbrev pub answer_at : Option ℕ → ℕ → Answer
+answer_at None d = BadFile
+answer_at (Some n) d = cond (leb n 16) (cond (ltb d n) Done NotInFile) BadFile
 
 -- of any slice and any count: the slice has a line for domain d, and what the line names
-abbrev pub names_body : List ℕ → ℕ → ℕ → Bool
-names_body s count d =
-    leb count 16 && (ltb d count && (leb (12 + d * 6) (length s) && leb (offset_in s d + vcpus_in s d * 20) (length s)))
+abbrev pub names_body : List ℕ → Option ℕ → ℕ → Bool
+names_body s None d = false
+names_body s (Some n) d =
+    leb n 16 && (ltb d n && (leb (12 + d * 6) (length s) && leb (offset_in s d + vcpus_in s d * 20) (length s)))
 
-abbrev pub stretch_at : List ℕ → ℕ → ℕ → List ℕ
+abbrev pub stretch_at : List ℕ → Option ℕ → ℕ → List ℕ
 stretch_at s count d = cond (names_body s count d) (body_in s d) []
 
-abbrev pub start_at : List ℕ → ℕ → ℕ → ℕ
+abbrev pub start_at : List ℕ → Option ℕ → ℕ → ℕ
 start_at s count d = cond (names_body s count d) (offset_in s d) 0
 
-abbrev pub place_at : Bor (List ℕ) → ℕ → ℕ → ℕ × ℕ
+abbrev pub place_at : Bor (List ℕ) → Option ℕ → ℕ → ℕ × ℕ
 place_at s count d = (s.ref_ptr.0, start_at s.now count d + s.ref_ptr.1)
 
 -- ---- a body

@@ -3,54 +3,34 @@
 #![tactic(auto)]
 
 ghost use Rattle.std.specs.Prelude.{◌≡◌, ◌+◌, ◌*◌, ◌^◌, ◌≤◌, ◌<◌, length};
-ghost use Rattle.big_endian.specs.Numbers.{number};
 ghost use Rattle.service.specs.Service.{value, held};
-ghost use Rattle.system.specs.Answers.{told};
-ghost use Rattle.usage_layout.specs.Reading.{all, opens, line_right, weighed, shaped, vcpus_each, count_of};
-ghost use Rattle.usage_parse.specs.Domains.{answer_at, stretch_at, place_at, vcpus_of, weight_at, service_at};
+ghost use Rattle.usage_layout.specs.Reading.{all, offset_in, vcpus_in, line_right, weighed, shaped, vcpus_each};
+ghost use Rattle.usage_parse.specs.Domains.{count_in, answer_at, stretch_at, place_at, vcpus_of, weight_at, service_at};
 
-use big_endian::{half, word};
+use big_endian::BigEndian;
 use service::Service;
 use system::{Answer, MAX_DOMAINS, MAX_VCPUS};
 use usage_layout::MAGIC;
 
-/// The domain count that stands for a file that is not accepted.
-pub const REFUSED: usize = 17;
-
-// ---- numbers
-
-fn half_at(s: &[u8], at: usize) -> usize
-    requires { at + 2 ≤ length s.now }
-    ensures value { result ≡ number s.now at 2 }
-    ensures bound { result < 2 ^ 16 }
-{
-    half(s[at], s[at + 1]) as usize
-}
-
-fn word_at(s: &[u8], at: usize) -> usize
-    requires { at + 4 ≤ length s.now }
-    ensures value { result ≡ number s.now at 4 }
-    ensures bound { result < 2 ^ 32 }
-{
-    word(s[at], s[at + 1], s[at + 2], s[at + 3]) as usize
-}
-
 // ---- what is accepted
 
-// Whether it opens with the four bytes.
-fn opens(s: &[u8]) -> bool
-    requires { 4 ≤ length s.now }
-    ensures { result ≡ opens s.now }
+// A domain's line in the table of contents: where its body starts, and how many vCPUs that has.
+#[derive(Clone, Copy)]
+struct Line {
+    offset: usize,
+    vcpus: usize,
+}
+
+fn line_at(s: &[u8], d: usize) -> Line
+    requires few { d < 16 }
+    requires line_within { 12 + d * 6 ≤ length s.now }
+    ensures offset { (result.offset ≡ offset_in s.now d) × (result.offset < 2 ^ 32) }
+    ensures vcpus { (result.vcpus ≡ vcpus_in s.now d) × (result.vcpus < 2 ^ 16) }
 {
-    let magic = MAGIC;
-    let mut i: usize = 0;
-    while i < 4 {
-        if s[i] != magic[i] {
-            return false;
-        }
-        i += 1;
+    Line {
+        offset: u32::read_at(s, 6 + d * 6) as usize,
+        vcpus: u16::read_at(s, 10 + d * 6) as usize,
     }
-    true
 }
 
 // Whether the line of domain d names the place that is due, and k vCPUs.
@@ -59,10 +39,8 @@ fn line_right(s: &[u8], n: usize, k: usize, d: usize) -> bool
     requires few { (d < 16) × (n ≤ 16) × (k ≤ 8) }
     ensures { result ≡ line_right s.now n k d }
 {
-    if word_at(s, 6 + d * 6) != 6 + n * 6 + d * (k * 20) {
-        return false;
-    }
-    half_at(s, 10 + d * 6) == k
+    let line = line_at(s, d);
+    line.offset == 6 + n * 6 + d * (k * 20) && line.vcpus == k
 }
 
 // Whether the line of each domain does.
@@ -71,15 +49,7 @@ fn lines_right(s: &[u8], n: usize, k: usize) -> bool
     requires few { (n ≤ 16) × (k ≤ 8) }
     ensures { result ≡ all n (line_right s.now n k) }
 {
-    let mut d: usize = 0;
-    while d < n {
-        let right = line_right(s, n, k, d);
-        if !right {
-            return false;
-        }
-        d += 1;
-    }
-    true
+    (0..n).all(|d| line_right(s, n, k, d))
 }
 
 // Whether each of m vCPUs, from byte `from` on, has a weight of at least 1.
@@ -88,98 +58,73 @@ fn weighed(s: &[u8], from: usize, m: usize) -> bool
     requires few { m ≤ 128 }
     ensures { result ≡ weighed s.now from m }
 {
-    let mut i: usize = 0;
-    while i < m {
-        if word_at(s, from + i * 20) < 1 {
-            return false;
-        }
-        i += 1;
-    }
-    true
+    (0..m).all(|i| 1 <= u32::read_at(s, from + i * 20))
 }
 
 // Whether it has n domains of k vCPUs each, every line right, every weight at least 1, and no byte after the last body.
+#[tactic(auto, unfolding(usage_layout::specs::Reading::shaped))]
 fn shaped(s: &[u8], n: usize, k: usize) -> bool
     ensures { result ≡ shaped s.now n k }
 {
-    if MAX_DOMAINS < n {
-        return false;
-    }
-    if MAX_VCPUS < k {
-        return false;
-    }
-    if s.len() != 6 + n * 6 + n * (k * 20) {
-        return false;
-    }
-    let right = lines_right(s, n, k);
-    if !right {
-        return false;
-    }
-    weighed(s, 6 + n * 6, n * k)
+    n <= MAX_DOMAINS
+        && k <= MAX_VCPUS
+        && s.len() == 6 + n * 6 + n * (k * 20)
+        && lines_right(s, n, k)
+        && weighed(s, 6 + n * 6, n * k)
 }
 
 // The vCPU count of the first line, 0 where there is no line.
 fn vcpus_each(s: &[u8]) -> usize
     ensures { result ≡ vcpus_each s.now }
 {
-    if s.len() < 12 { 0 } else { half_at(s, 10) }
+    if s.len() < 12 { 0 } else { line_at(s, 0).vcpus }
 }
 
-/// The domain count of a file, or REFUSED where it is not accepted.
-pub fn domain_count(file: &[u8]) -> usize
-    ensures { result ≡ count_of file.now }
+/// The domain count of a file, if it is accepted.
+pub fn domain_count(file: &[u8]) -> Option<usize>
+    ensures { result ≡ count_in file.now }
 {
     if file.len() < 6 {
-        return REFUSED;
+        return None;
     }
-    let usage = opens(file);
-    if !usage {
-        return REFUSED;
+    if !file.starts_with(&MAGIC) {
+        return None;
     }
-    let n = half_at(file, 4);
-    let right = shaped(file, n, vcpus_each(file));
-    if !right {
-        return REFUSED;
-    }
-    n
+    let n = u16::read_at(file, 4) as usize;
+    shaped(file, n, vcpus_each(file)).then_some(n)
 }
 
 // ---- one domain
 
-/// What is told of a domain of a file with that count.
-pub fn answer_at(count: usize, domain: usize) -> u64
-    ensures { result ≡ told (answer_at count domain) }
+/// What is told of a domain of a file with that count; a count above the sizes is no file's.
+pub fn answer_at(count: Option<usize>, domain: usize) -> Answer
+    ensures { result ≡ answer_at count domain }
 {
-    let answer = if MAX_DOMAINS < count {
-        Answer::BadFile
-    } else if count <= domain {
-        Answer::NotInFile
-    } else {
-        Answer::Done
-    };
-    system::number_of(answer)
+    match count {
+        Some(n) if domain < n && n <= MAX_DOMAINS => Answer::Done,
+        Some(n) if n <= MAX_DOMAINS => Answer::NotInFile,
+        _ => Answer::BadFile,
+    }
 }
 
 /// A domain's body: that stretch of the slice, found from the table of contents; an empty one where there is none.
-pub fn body_at(file: &[u8], count: usize, domain: usize) -> &[u8]
+pub fn body_at(file: &[u8], count: Option<usize>, domain: usize) -> &[u8]
     ensures result_value { result.now ≡ stretch_at file.now count domain }
     ensures ref_ptr_value { result.ref_ptr ≡ place_at file.entry count domain }
 {
-    if MAX_DOMAINS < count {
-        return &file[0..0];
+    let none = &file[..0];
+    let Some(n) = count else {
+        return none;
+    };
+    if MAX_DOMAINS < n || n <= domain || file.len() < 12 + domain * 6 {
+        return none;
     }
-    if count <= domain {
-        return &file[0..0];
-    }
-    if file.len() < 12 + domain * 6 {
-        return &file[0..0];
-    }
-    let offset = word_at(file, 6 + domain * 6);
-    let end = offset + half_at(file, 10 + domain * 6) * 20;
+    let line = line_at(file, domain);
+    let end = line.offset + line.vcpus * 20;
     if file.len() < end {
-        return &file[0..0];
+        return none;
     }
-    &file[offset..end]
+    &file[line.offset..end]
 }
 
 // ---- one vCPU of a body
@@ -195,10 +140,10 @@ pub fn vcpu_count(body: &[u8]) -> usize
 pub fn weight_at(body: &[u8], vcpu: usize) -> u32
     ensures { result ≡ weight_at body.now vcpu }
 {
-    if body.len() / 20 <= vcpu {
+    if vcpu_count(body) <= vcpu {
         return 0;
     }
-    word_at(body, vcpu * 20) as u32
+    u32::read_at(body, vcpu * 20)
 }
 
 /// A vCPU's service; 0 for one that the body has not.
@@ -206,14 +151,14 @@ pub fn service_at(body: &[u8], vcpu: usize) -> Service
     ensures value { result ≡ held (service_at body.now vcpu) }
     ensures result_value { value result ≡ service_at body.now vcpu }
 {
-    if body.len() / 20 <= vcpu {
+    if vcpu_count(body) <= vcpu {
         return [0; 4];
     }
     let at = vcpu * 20 + 4;
     [
-        word_at(body, at + 12) as u32,
-        word_at(body, at + 8) as u32,
-        word_at(body, at + 4) as u32,
-        word_at(body, at) as u32,
+        u32::read_at(body, at + 12),
+        u32::read_at(body, at + 8),
+        u32::read_at(body, at + 4),
+        u32::read_at(body, at),
     ]
 }

@@ -2,91 +2,68 @@
 
 #![tactic(auto)]
 
-ghost use Rattle.std.specs.Prelude.{◌≡◌, ◌+◌, ◌≤◌, length};
-ghost use Rattle.io.specs.Counts.{IsPrefixLen};
-ghost use Rattle.text.specs.Places.{Placed};
-ghost use Rattle.usage_text.specs.BodyText.{vcpu_line, body_lines, body_text_of};
-ghost use Rattle.usage_text.specs.FileText.{domain_lines, file_lines, file_text_of};
+ghost use Rattle.std.specs.Prelude.{◌≡◌, ◌+◌, ◌≤◌, ◌++◌};
+ghost use Rattle.arrayvec.specs.ArrayVec.{array_vec_len};
+ghost use Rattle.usage_text.specs.BodyText.{vcpu_line, body_lines};
+ghost use Rattle.usage_text.specs.FileText.{file_lines};
 
-use system::{MAX_DOMAINS, MAX_VCPUS, least};
+use arrayvec::ArrayVec;
+use system::{MAX_DOMAINS, MAX_VCPUS};
 use usage_parse::{body_at, service_at, vcpu_count, weight_at};
 
-/// The text of a body, the first `length` bytes: eight lines of at most 103 bytes.
-#[derive(Clone, Copy)]
-pub struct BodyText {
-    pub bytes: [u8; 824],
-    pub length: usize,
-}
+/// The most bytes that the text of a body takes: eight lines of at most 103 bytes.
+pub const BODY_ROOM: usize = 824;
+/// The most bytes that the text of a file takes: sixteen bodies.
+pub const FILE_ROOM: usize = 13184;
 
-/// The text of a file, the first `length` bytes: sixteen bodies. And the count of domains by which it was read.
-#[derive(Clone, Copy)]
+/// The text of a body.
+pub type BodyText = ArrayVec<u8, BODY_ROOM>;
+
+/// The text of a file, and the count of domains by which it was read.
+#[derive(Drop)]
 pub struct FileText {
-    pub bytes: [u8; 13184],
-    pub length: usize,
-    pub count: usize,
+    pub text: ArrayVec<u8, FILE_ROOM>,
+    pub count: Option<usize>,
 }
 
-fn put_vcpu(out: &mut [u8], at: usize, domain: u64, body: &[u8], v: usize) -> usize
-    requires { at + 103 ≤ length out.old }
-    ensures placed { Placed out.old at (vcpu_line domain body.now v) out.new result }
-    ensures upper_bound { result ≤ at + 103 }
+fn push_vcpu<const N: usize>(out: &mut ArrayVec<u8, N>, domain: u64, body: &[u8], v: usize)
+    requires { array_vec_len out.old + 103 ≤ N }
+    ensures items { out.new.items ≡ out.old.items ++ vcpu_line domain body.now v }
+    ensures upper_bound { array_vec_len out.new ≤ array_vec_len out.old + 103 }
 {
     let weight = weight_at(body, v);
     let line = text::usage_line(domain, v as u64, weight as u64, service_at(body, v));
-    text::append(out, at, line)
+    out.try_extend_from_slice(line.as_slice()).unwrap();
 }
 
 // A line for each vCPU of a body.
-fn put_body(out: &mut [u8], at: usize, domain: u64, body: &[u8]) -> usize
-    requires { at + 824 ≤ length out.old }
-    ensures placed { Placed out.old at (body_lines domain body.now) out.new result }
-    ensures upper_bound { result ≤ at + 824 }
+fn push_body<const N: usize>(out: &mut ArrayVec<u8, N>, domain: u64, body: &[u8])
+    requires { array_vec_len out.old + 824 ≤ N }
+    ensures items { out.new.items ≡ out.old.items ++ body_lines domain body.now }
+    ensures upper_bound { array_vec_len out.new ≤ array_vec_len out.old + 824 }
 {
-    let n = least(vcpu_count(body), MAX_VCPUS);
-    let mut past = at;
-    let mut v: usize = 0;
-    while v < n {
-        past = put_vcpu(out, past, domain, body, v);
-        v += 1;
+    for v in 0..vcpu_count(body).min(MAX_VCPUS) {
+        push_vcpu(out, domain, body, v);
     }
-    past
 }
 
 /// A line for each vCPU of a body, of which a domain has at most eight.
 pub fn body_text(domain: u64, body: &[u8]) -> BodyText
-    ensures value { result ≡ body_text_of (body_lines domain body.now) }
-    ensures prefix_len { IsPrefixLen result.length result.bytes }
+    ensures value { result.items ≡ body_lines domain body.now }
 {
-    let mut bytes = [0u8; 824];
-    let length = put_body(&mut bytes, 0, domain, body);
-    BodyText { bytes, length }
-}
-
-// The lines of a domain of a file with that count.
-fn put_domain(out: &mut [u8], at: usize, file: &[u8], count: usize, domain: usize) -> usize
-    requires { at + 824 ≤ length out.old }
-    ensures placed { Placed out.old at (domain_lines file.now count domain) out.new result }
-    ensures upper_bound { result ≤ at + 824 }
-{
-    put_body(out, at, domain as u64, body_at(file, count, domain))
+    let mut text = BodyText::new();
+    push_body(&mut text, domain, body);
+    text
 }
 
 /// The lines of the first n domains, of at most sixteen, of a file with that count.
-pub fn file_text(file: &[u8], count: usize, n: usize) -> FileText
-    ensures value { result ≡ file_text_of count (file_lines file.now count n) }
-    ensures prefix_len { IsPrefixLen result.length result.bytes }
+pub fn file_text(file: &[u8], count: Option<usize>, n: usize) -> FileText
+    ensures value { result.text.items ≡ file_lines file.now count n }
+    ensures count { result.count ≡ count }
 {
-    let mut bytes = [0u8; 13184];
-    let m = least(n, MAX_DOMAINS);
-    let mut length: usize = 0;
-    let mut d: usize = 0;
-    while d < m {
-        length = put_domain(&mut bytes, length, file, count, d);
-        d += 1;
+    let mut text = ArrayVec::new();
+    for d in 0..n.min(MAX_DOMAINS) {
+        push_body(&mut text, d as u64, body_at(file, count, d));
     }
-    FileText {
-        bytes,
-        length,
-        count,
-    }
+    FileText { text, count }
 }

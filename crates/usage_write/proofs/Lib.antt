@@ -2,5 +2,4 @@ mod Stores
 mod Limbs
 mod Sizes
 mod FileLoop
-mod EachElement
 mod Fits

@@ -1,25 +1,8 @@
--- Runs of stores into an array of zeros. Assumes nothing.
-use mathlib.Core.Path.{◌≡◌, ap, ◌∙◌}
-use mathlib.Core.List.{List, ◌++◌}
-use Prim.Native.Nat.{ℕ, zero, suc, ◌+◌, ◌-◌, ◌≤◌}
-use native.Mathlib.Nat.{zero-add}
-use native.Mathlib.Numerals.{unary_clauses}
-use native.Mathlib.Omega.{arith}
-use lib.ListN.{length, drop, length-replicate}
-use lib.Seq.{sets, sets-eq}
-use Rattle.usage_layout.specs.Layout.{zeros, padded}
+-- A run of stores over a whole array. Assumes nothing.
+use Rattle.std.proofs.Common.{◌≡◌, ◌+◌, ◌++◌, ◌∙◌, ap, List, [], ℕ, length, drop, append-nil, drop_of_length-le, arith}
+use Rattle.std.proofs.lemmas.List.Edits.{sets, sets-eq}
 
-drop-zeros : (n m : ℕ) → drop n (zeros m) ≡ zeros (m - n)
-drop-zeros zero m = simp unary_clauses
-drop-zeros (suc n) zero = let e : 0 ≡ 0 - suc n = omega arith in ap zeros e
-drop-zeros (suc n) (suc m) = simp unary_clauses (drop-zeros n m)
-
-stored-first : (m : ℕ) (l : List ℕ) → length l ≤ m → sets (zeros m) 0 l ≡ l ++ zeros (m - length l)
-stored-first m l h =
-    sets-eq l (zeros m) 0 (omega (arith, length-replicate {A = ℕ} m 0))
-    ∙ ap (λ (z : List ℕ). l ++ z) (drop-zeros (0 + length l) m ∙ ap (λ (n : ℕ). zeros (m - n)) (zero-add (length l)))
-
--- a file that is stored from the first byte on
-pub stored-file : (l : List ℕ) → length l ≤ 2662 → sets (zeros 2662) 0 l ≡ padded l
-unfolding padded
-stored-file l = stored-first 2662 l
+pub stored-whole : (l t : List ℕ) → length t ≡ length l → sets l 0 t ≡ t
+stored-whole l t e =
+    let past : drop (0 + length t) l ≡ [] = drop_of_length-le l (omega arith) in
+    sets-eq t l 0 (omega arith) ∙ ap (λ (r : List ℕ). t ++ r) past ∙ append-nil t

@@ -1,5 +1,6 @@
 -- The tally of Running vCPUs against held pCPUs: where no vCPU is in violation, it is even exactly on sound systems.
 -- Assumes nothing.
+use Rattle.std.specs.Prelude.{None, is_none}
 use Rattle.std.proofs.Common.{ℕ, suc, ◌+◌, ◌*◌, ◌/◌, ◌%◌, ◌<◌, Bool, true, false, cond, not, ◌≡◌, refl, sym, ◌∙◌, ap, subst, arith, eqb, ltb, ltb-true, lt-ltb, eqb-true, eq-eqb}
 use Rattle.std.proofs.lemmas.Bool.{false≢true}
 use Rattle.system.specs.declared.RunState.{RunState}
@@ -11,9 +12,8 @@ use Rattle.system.specs.Shape.{within_sizes}
 use Rattle.system.specs.Reads.{vcpu_at, occupant_at, is_idle, count, busy_pcpus}
 use Rattle.system.specs.Slots.{domains, vcpus, pcpus, slot, Present}
 use Rattle.system.specs.States.{onto}
-use Rattle.verdict.specs.declared.Violation.TheVariants.{None}
 use Rattle.verdict.specs.Violations.{vcpu_violation, slot_violation, holder_violation, pcpu_violation}
-use Rattle.verdict.specs.Violations.{earliest, first_violation, is_none, invariants_hold}
+use Rattle.verdict.specs.Violations.{earliest, first_violation, invariants_hold}
 use Rattle.verdict.specs.OneViolation.{runs_within, running_at}
 use Rattle.verdict.specs.Sound.{OnPcpu, Sound, earliest-none, clean-runs, occupies-none, is-none, sound_iff}
 use Rattle.verdict.proofs.VerdictScan.{counts}

@@ -1,4 +1,6 @@
 -- One turn of a scan, and that a record read at an index that is always in the table serves as the record named. Assumes nothing.
+use Rattle.std.specs.Prelude.{Option, None, Some, is_none}
+use Rattle.std.specs.Option.{option_or, is_some}
 use Rattle.std.proofs.Common.{ℕ, zero, suc, ◌+◌, ◌*◌, ◌/◌, ◌%◌, ◌≤◌, ◌<◌, Bool, true, false, ◌≡◌, refl, sym, ◌∙◌, ap, ⊎_elim, eq-or-lt_of_le, arith, ltb, ltb-true, lt-ltb, le-ltb}
 use Rattle.std.proofs.lemmas.Bool.{false≢true}
 use Rattle.system.specs.declared.RunState.{RunState}
@@ -10,46 +12,38 @@ use Rattle.system.specs.Shape.{within_sizes}
 use Rattle.system.specs.Reads.{vcpu_at, occupant_at}
 use Rattle.system.specs.Slots.{domains, vcpus, pcpus}
 use Rattle.verdict.specs.declared.Violation.{Violation}
-use Rattle.verdict.specs.declared.Violation.TheVariants.{None, Oversize, OccupantGhost, OccupantNotRunning}
-use Rattle.verdict.specs.declared.Violation.TheVariants.{RunningGhostPcpu, OccupancyBroken, RunningOffAffinity}
 use Rattle.verdict.specs.Violations.{running_violation, vcpu_violation, slot_violation, occupant_violation, holder_violation}
-use Rattle.verdict.specs.Violations.{pcpu_violation, or_else, earliest, is_none}
+use Rattle.verdict.specs.Violations.{pcpu_violation, earliest}
 use Rattle.verdict.specs.Sound.{within-sizes}
 use Rattle.verdict.specs.OneViolation.{pcpu_index, vcpu_violation_at, holder_slot, holder_violation_at}
 
 -- nothing is wrong so far, nor here
-pub step : (f : ℕ → Violation) (i : ℕ) → earliest f i ≡ None → f i ≡ None → earliest f (suc i) ≡ None
+pub step : (f : ℕ → Option Violation) (i : ℕ) → earliest f i ≡ None → f i ≡ None → earliest f (suc i) ≡ None
 unfolding earliest
 step f i e h = rw (e, h)
 
-pub or_keeps : (a b : Violation) → is_none a ≡ false → or_else a b ≡ a
+-- what the code tests of a verdict
+pub is-found : (v : Option Violation) → is_some v ≡ true → is_none v ≡ false
+is-found None e = absurd (false≢true e)
+is-found (Some w) e = refl
+
+pub is-clean : (v : Option Violation) → is_some v ≡ false → v ≡ None
+is-clean None e = refl
+is-clean (Some w) e = absurd (false≢true (sym e))
+
+pub or_keeps : (a b : Option Violation) → is_none a ≡ false → option_or a b ≡ a
 or_keeps None b e = absurd (false≢true (sym e))
-or_keeps Oversize b e = refl
-or_keeps (RunningGhostPcpu d v) b e = refl
-or_keeps (OccupancyBroken d v) b e = refl
-or_keeps (RunningOffAffinity d v) b e = refl
-or_keeps (OccupantGhost p) b e = refl
-or_keeps (OccupantNotRunning p) b e = refl
+or_keeps (Some v) b e = refl
 
 -- nothing is wrong so far, but v is here: it is the first, however far the scan goes
-pub stop : (f : ℕ → Violation) (i n : ℕ) {v : Violation} → earliest f i ≡ None → v ≡ f i → is_none v ≡ false → i < n → v ≡ earliest f n
+pub stop : (f : ℕ → Option Violation) (i n : ℕ) {v : Option Violation} → earliest f i ≡ None → v ≡ f i → is_some v ≡ true → i < n → v ≡ earliest f n
 unfolding earliest
 stop f i zero e q h l = absurd (omega arith)
 stop f i (suc n) {v} e q h l =
     ⊎_elim
     (λ m. let j : n ≡ i = omega arith in rw (j, e) q)
-    (λ m. rw (sym (stop f i n e q h (omega arith))) (sym (or_keeps v (f n) h)))
+    (λ m. rw (sym (stop f i n e q h (omega arith))) (sym (or_keeps v (f n) (is-found v h))))
     (eq-or-lt_of_le l)
-
-pub index_below : (st : RunState) → pcpu_index st < 64
-index_below Offline = omega arith
-index_below Runnable = omega arith
-index_below (Running p) = omega arith
-index_below Blocked = omega arith
-
-pub holder-slot-below : (o : Occupant) → holder_slot o < 128
-holder-slot-below Idle = omega arith
-holder-slot-below (Vcpu d v) = omega arith
 
 -- the index of a vCPU's pCPU is that of the one it runs on, if that exists
 stands_at : (s : System) (d v mask : ℕ) (st : RunState)
@@ -88,7 +82,7 @@ module _ (s : System) (fit : within_sizes s.domain_count s.vcpus_per_domain s.pc
       let z = within-sizes s.domain_count s.vcpus_per_domain s.pcpu_count fit in
       (omega arith, omega arith, omega arith)
 
-  pub slot-told : (i q : ℕ) (r : Violation) → i % 8 < s.vcpus_per_domain → q ≡ pcpu_index (vcpu_at s i).state
+  pub slot-told : (i q : ℕ) (r : Option Violation) → i % 8 < s.vcpus_per_domain → q ≡ pcpu_index (vcpu_at s i).state
       → r ≡ vcpu_violation_at s.pcpu_count (occupant_at s q) (i / 8) (i % 8) (vcpu_at s i).affinity (vcpu_at s i).state
       → r ≡ slot_violation s i
   unfolding slot_violation vcpu_at occupant_at
@@ -100,7 +94,7 @@ module _ (s : System) (fit : within_sizes s.domain_count s.vcpus_per_domain s.pc
   unfolding slot_violation
   slot-absent i l = rw (le-ltb (i % 8) (vcpus s) (omega (arith, counts)))
 
-  pub pcpu-told : (p j : ℕ) (r : Violation) → j ≡ holder_slot (occupant_at s p)
+  pub pcpu-told : (p j : ℕ) (r : Option Violation) → j ≡ holder_slot (occupant_at s p)
       → r ≡ holder_violation_at s.domain_count s.vcpus_per_domain (vcpu_at s j).state p (occupant_at s p)
       → r ≡ pcpu_violation s p
   unfolding pcpu_violation vcpu_at occupant_at

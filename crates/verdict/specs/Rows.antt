@@ -1,5 +1,5 @@
 -- The verdict on small damaged systems, worked out by hand: each verdict, and each place in the order of the scan. Assumes nothing.
-use Rattle.std.specs.Prelude.{ℕ, refl, List, [], ◌∷◌, ◌++◌}
+use Rattle.std.specs.Prelude.{ℕ, refl, List, [], ◌∷◌, ◌++◌, Option, None, Some}
 use Rattle.rows.specs.Rows.{Row, rows, test, AllDue}
 use Rattle.system.specs.declared.RunState.{RunState}
 use Rattle.system.specs.declared.RunState.TheVariants.{Runnable, Running}
@@ -10,20 +10,20 @@ use Rattle.system.specs.Shape.{fresh}
 use Rattle.system.specs.Slots.{slot}
 use Rattle.system.specs.Writes.{put_vcpu, put_occupant}
 use Rattle.verdict.specs.declared.Violation.{Violation}
-use Rattle.verdict.specs.declared.Violation.TheVariants.{None, Oversize, OccupantGhost, OccupantNotRunning}
+use Rattle.verdict.specs.declared.Violation.TheVariants.{Oversize, OccupantGhost, OccupantNotRunning}
 use Rattle.verdict.specs.declared.Violation.TheVariants.{RunningGhostPcpu, OccupancyBroken, RunningOffAffinity}
 use Rattle.verdict.specs.Violations.{slot_violation, pcpu_violation, earliest, first_violation}
 use Rattle.verdict.specs.OneViolation.{pcpu_index, vcpu_violation_at, runs_within}
 
 -- 0 none; 1 oversize; of a vCPU 2 ghost pCPU, 3 broken occupancy, 4 off affinity; of a pCPU 5 ghost occupant, 6 occupant not running
-abbrev numbered : Violation → List ℕ
+abbrev numbered : Option Violation → List ℕ
 numbered None = 0 ∷ []
-numbered Oversize = 1 ∷ []
-numbered (RunningGhostPcpu d v) = 2 ∷ d ∷ v ∷ []
-numbered (OccupancyBroken d v) = 3 ∷ d ∷ v ∷ []
-numbered (RunningOffAffinity d v) = 4 ∷ d ∷ v ∷ []
-numbered (OccupantGhost p) = 5 ∷ p ∷ []
-numbered (OccupantNotRunning p) = 6 ∷ p ∷ []
+numbered (Some Oversize) = 1 ∷ []
+numbered (Some (RunningGhostPcpu d v)) = 2 ∷ d ∷ v ∷ []
+numbered (Some (OccupancyBroken d v)) = 3 ∷ d ∷ v ∷ []
+numbered (Some (RunningOffAffinity d v)) = 4 ∷ d ∷ v ∷ []
+numbered (Some (OccupantGhost p)) = 5 ∷ p ∷ []
+numbered (Some (OccupantNotRunning p)) = 6 ∷ p ∷ []
 
 abbrev found : System → List ℕ
 found s = numbered (first_violation s)

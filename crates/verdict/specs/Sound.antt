@@ -1,5 +1,6 @@
 -- A sound system, and that the verdict finds exactly these. Assumes nothing.
-use Rattle.std.specs.Prelude.{ℕ, zero, suc, ◌*◌, ◌/◌, ◌%◌, ◌≤◌, ◌<◌, Bool, true, false, cond, ◌≡◌, refl, ◌↔◌, ltb}
+use Rattle.std.specs.Prelude.{ℕ, zero, suc, ◌*◌, ◌/◌, ◌%◌, ◌≤◌, ◌<◌, Bool, true, false, cond, ◌≡◌, refl, ◌↔◌, Option, None, Some, is_none, ltb}
+use Rattle.std.specs.Option.{option_or}
 use Rattle.std.proofs.lemmas.Bool.{false≢true}
 use Rattle.std.proofs.Common.{sym, ◌∙◌, ap, subst, ⊎_elim, eq-or-lt_of_le, arith, ltb-true, leb-true, eqb-true, eq-eqb, lt-ltb, le-leb}
 use Rattle.scans.specs.Booleans.{both}
@@ -13,12 +14,11 @@ use Rattle.system.specs.States.{runs_on, runs_on_lem}
 use Rattle.system.specs.Shape.{within_sizes}
 use Rattle.system.specs.Reads.{vcpu_at, occupant_at}
 use Rattle.system.specs.Slots.{domains, vcpus, pcpus, slot, Present}
-use Rattle.system.specs.States.{runs_on}
 use Rattle.verdict.specs.declared.Violation.{Violation}
-use Rattle.verdict.specs.declared.Violation.TheVariants.{None, Oversize, OccupantGhost, OccupantNotRunning}
+use Rattle.verdict.specs.declared.Violation.TheVariants.{Oversize, OccupantGhost, OccupantNotRunning}
 use Rattle.verdict.specs.declared.Violation.TheVariants.{RunningGhostPcpu, OccupancyBroken, RunningOffAffinity}
 use Rattle.verdict.specs.Violations.{names, vcpu_violation, slot_violation, holder_violation}
-use Rattle.verdict.specs.Violations.{pcpu_violation, or_else, earliest, first_violation, is_none, invariants_hold}
+use Rattle.verdict.specs.Violations.{pcpu_violation, earliest, first_violation, invariants_hold}
 
 -- the vCPU of slot i may stand on pCPU p: p exists, names it back, and its mask admits p
 pub record OnPcpu (s : System) (i p : ℕ) : Type 0 where
@@ -41,21 +41,16 @@ pub record Sound (s : System) : Type 0 where
   pub occupied : (p d v : ℕ) → p < Rattle.system.specs.Slots.pcpus s → occupant_at s p ≡ Vcpu d v → Occupies s p d v
 
 -- nothing is found where nothing is wrong, and something where something is
-pub earliest-none : (f : ℕ → Violation) (n : ℕ) → ((i : ℕ) → i < n → f i ≡ None) → earliest f n ≡ None
+pub earliest-none : (f : ℕ → Option Violation) (n : ℕ) → ((i : ℕ) → i < n → f i ≡ None) → earliest f n ≡ None
 unfolding earliest
 earliest-none f zero h = refl
 earliest-none f (suc n) h = rw (earliest-none f n (λ i l. h i (omega arith)), h n (omega arith))
 
-or_none : (a b : Violation) → or_else a b ≡ None → (a ≡ None) × (b ≡ None)
+or_none : (a b : Option Violation) → option_or a b ≡ None → (a ≡ None) × (b ≡ None)
 or_none None b e = (refl, e)
-or_none Oversize b e = absurd (false≢true (ap is_none e))
-or_none (RunningGhostPcpu d v) b e = absurd (false≢true (ap is_none e))
-or_none (OccupancyBroken d v) b e = absurd (false≢true (ap is_none e))
-or_none (RunningOffAffinity d v) b e = absurd (false≢true (ap is_none e))
-or_none (OccupantGhost p) b e = absurd (false≢true (ap is_none e))
-or_none (OccupantNotRunning p) b e = absurd (false≢true (ap is_none e))
+or_none (Some v) b e = absurd (false≢true (ap is_none e))
 
-earliest-all : (f : ℕ → Violation) (n : ℕ) → earliest f n ≡ None → (i : ℕ) → i < n → f i ≡ None
+earliest-all : (f : ℕ → Option Violation) (n : ℕ) → earliest f n ≡ None → (i : ℕ) → i < n → f i ≡ None
 unfolding earliest
 earliest-all f zero e i l = absurd (omega arith)
 earliest-all f (suc n) e i l =
@@ -63,7 +58,7 @@ earliest-all f (suc n) e i l =
     ⊎_elim (λ q. let j : i ≡ n = omega arith in ap f j ∙ h.1) (λ m. earliest-all f n h.0 i (omega arith)) (eq-or-lt_of_le l)
 
 -- a test whose failure is a violation has passed
-passed : (b : Bool) (x w : Violation) → is_none w ≡ false → cond b x w ≡ None → (b ≡ true) × (x ≡ None)
+passed : (b : Bool) (x w : Option Violation) → is_none w ≡ false → cond b x w ≡ None → (b ≡ true) × (x ≡ None)
 passed true x w n e = (refl, e)
 passed false x w n e = absurd (false≢true (sym n ∙ ap is_none e))
 
@@ -85,9 +80,9 @@ clean-runs s clean i p h r =
     let f = earliest-all (slot_violation s) (domains s * 8) clean i (omega (arith, h.domain)) in
     let g = rw (lt-ltb (i % 8) (vcpus s) h.vcpu) at f in
     let k = subst (λ (st : RunState). vcpu_violation s (i / 8) (i % 8) (vcpu_at s i).affinity st ≡ None) r g in
-    let a = passed _ _ (RunningGhostPcpu (i / 8) (i % 8)) refl k in
-    let b = passed _ _ (OccupancyBroken (i / 8) (i % 8)) refl a.1 in
-    let c = passed _ _ (RunningOffAffinity (i / 8) (i % 8)) refl b.1 in
+    let a = passed _ _ (Some (RunningGhostPcpu (i / 8) (i % 8))) refl k in
+    let b = passed _ _ (Some (OccupancyBroken (i / 8) (i % 8))) refl a.1 in
+    let c = passed _ _ (Some (RunningOffAffinity (i / 8) (i % 8))) refl b.1 in
     record { exists = ltb-true _ _ a.0; back = named _ _ _ b.0; admits = c.0 }
 
 pub none-sound : (s : System) → first_violation s ≡ None → Sound s
@@ -96,8 +91,8 @@ none-sound s e =
     record { domains = size.0; vcpus = size.1; pcpus = size.2; runs = clean-runs s clean.0; occupied = occupied' }
   where
     test : (within_sizes s.domain_count s.vcpus_per_domain s.pcpu_count ≡ true)
-        × (or_else (earliest (slot_violation s) (domains s * 8)) (earliest (pcpu_violation s) (pcpus s)) ≡ None)
-    test = passed _ _ Oversize refl e
+        × (option_or (earliest (slot_violation s) (domains s * 8)) (earliest (pcpu_violation s) (pcpus s)) ≡ None)
+    test = passed _ _ (Some Oversize) refl e
 
     size : (s.domain_count ≤ 16) × (s.vcpus_per_domain ≤ 8) × (s.pcpu_count ≤ 64)
     size = within-sizes _ _ _ test.0
@@ -109,8 +104,8 @@ none-sound s e =
     occupied' p d v l o =
         let f = earliest-all (pcpu_violation s) (pcpus s) clean.1 p l in
         let g = subst (λ (h : Occupant). holder_violation s p h ≡ None) o f in
-        let a = passed _ _ (OccupantGhost p) refl g in
-        let b = passed _ _ (OccupantNotRunning p) refl a.1 in
+        let a = passed _ _ (Some (OccupantGhost p)) refl g in
+        let b = passed _ _ (Some (OccupantNotRunning p)) refl a.1 in
         let c = both _ _ a.0 in
         record { domain = ltb-true _ _ c.0; vcpu = ltb-true _ _ c.1; on = runs_on_lem p _ b.0 }
 
@@ -152,14 +147,9 @@ sound_none s S =
     pcpu_ok : (p : ℕ) → p < pcpus s → pcpu_violation s p ≡ None
     pcpu_ok p l = holder_ok p l (occupant_at s p) refl
 
-pub is-none : (v : Violation) → is_none v ≡ true → v ≡ None
+pub is-none : (v : Option Violation) → is_none v ≡ true → v ≡ None
 is-none None e = refl
-is-none Oversize e = absurd (false≢true e)
-is-none (RunningGhostPcpu d v) e = absurd (false≢true e)
-is-none (OccupancyBroken d v) e = absurd (false≢true e)
-is-none (RunningOffAffinity d v) e = absurd (false≢true e)
-is-none (OccupantGhost p) e = absurd (false≢true e)
-is-none (OccupantNotRunning p) e = absurd (false≢true e)
+is-none (Some w) e = absurd (false≢true e)
 
 -- the test is true exactly of sound systems
 pub sound_iff : (s : System) → (invariants_hold s ≡ true) ↔ Sound s

@@ -1,18 +1,17 @@
 -- `host_text::put_pcpu` meets its contract. Assumes nothing.
-use Rattle.std.proofs.Common.{sym, subst, arith}
-use Rattle.system.specs.declared.Occupant.{Occupant}
+use Rattle.std.proofs.Common.{◌∙◌}
+use Rattle.text.specs.Lines.{pcpu_line}
 use Rattle.text.specs.Lengths.{pcpu-line-short}
-use Rattle.text.specs.Places.{Placed, line-placed}
-use Rattle.host_text.specs.HostText.{pcpu_row}
+use Rattle.text.specs.Places.{line-placed}
 use Rattle.host_text.specs.Rooms.{pcpu_room}
 use Rattle.host_text.proofs.put_pcpu.Goals as goal
 
 pub returns-in-Vcpu : goal.returns-in-Vcpu
 returns-in-Vcpu c =
     let a = c.args in
-    let put = c.append in
-    let line = c.pcpu_line-line in
-    let placed =
-    line-placed a.out.now _ a.at pcpu_room line.result line.ensures (pcpu-line-short _ _ _) (omega arith) c.requires put.ensures.out_after
-    put.ensures.value in
-    subst (λ (o : Occupant). Placed a.out.now a.at (pcpu_row a.pcpu o) put.new.out put.result) (sym c.in-Vcpu.is) placed.0
+    let d = c.in-Vcpu.dom in
+    let v = c.in-Vcpu.vcpu in
+    let put = c.append.ensures in
+    rw c.in-Vcpu.is
+    (line-placed a.out.now (pcpu_line a.pcpu d v) a.at pcpu_room _ (c.as_slice.ensures.value ∙ c.pcpu_line-line.ensures)
+    (pcpu-line-short a.pcpu d v) c.requires put.out_after put.value).0

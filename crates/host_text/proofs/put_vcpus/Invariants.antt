@@ -1,11 +1,7 @@
 -- `host_text::put_vcpus`: the lines of the first slots are put. Assumes nothing.
-use Rattle.std.proofs.Common.{◌≡◌, ◌-◌, ◌≤◌, length}
 use Rattle.text.specs.Places.{Placed}
 use Rattle.host_text.specs.HostText.{vcpu_rows}
 use Rattle.host_text.proofs.put_vcpus.Given as goal
 
 abbrev pub invariant-loop-i : goal.invariant-loop-i
-invariant-loop-i l = Placed l.fn.out l.at (vcpu_rows l.s l.p l.i) l.out l.past × (l.i ≤ l.n) × (length l.out ≡ length l.fn.out)
-
-abbrev pub decreases-loop-i : goal.decreases-loop-i
-decreases-loop-i l = l.n - l.i
+invariant-loop-i l = Placed l.fn.out l.at (vcpu_rows l.s l.p l.i) l.out l.past

@@ -1,40 +1,37 @@
 -- What `moves::best_placement` leaves to show. Assumes nothing.
-use Rattle.std.proofs.Common.{refl, sym, ◌∙◌, zero-le, add-one, rules}
+use Rattle.std.proofs.Common.{refl, sym, ◌∙◌, add-one}
 use Rattle.scans.specs.Scan.{scan}
 use Rattle.moves.specs.Decide.{chosen}
-use Rattle.moves.specs.Leads.{none}
-use Rattle.moves.proofs.PlacementLoop.{first_for, skips, unplaced, takes, stays}
+use Rattle.moves.proofs.PlacementLoop.{skips, unplaced, takes, stays, first_for}
 use Rattle.moves.proofs.best_placement.Goals as goal
-use Rattle.moves.proofs.best_placement.Goals.{then-table-i-eq1+then-pcpu-lt64+then-runs_before, then-table-i-eq1+then-pcpu-lt64+else-runs_before, then-table-i-eq1+else-pcpu-lt64, else-table-i-eq1}
+use Rattle.moves.proofs.best_placement.Goals.{then-waits+then-pcpu-lt64+then-goes_before, then-waits+then-pcpu-lt64+else-goes_before, then-waits+else-pcpu-lt64, else-waits}
 
 pub loop-i-init : goal.loop-i-init
 unfolding chosen scan
-loop-i-init c = (zero-le, none refl refl)
+loop-i-init c = refl
 
 pub loop-i-preserved : goal.loop-i-preserved
 loop-i-preserved c =
-    let t = c.args.table.now in
+    let t = c.args.rows.now in
     let d = c.args.idle in
     let i = c.loop-i.i in
     let best = c.loop-i.best in
-    let lead = c.loop-i.invariant.1 in (
-      search rules,
-      rw
-          add-one
-          (elim c.if-table-i-eq1.branch [
-            | then-table-i-eq1+then-pcpu-lt64+then-runs_before w ↦
-                let p = first_for t d i _ _ w.mask_at.ensures w.first_idle_pcpu_for-pcpu.ensures in
-                rw w.best-is
-                (takes t d best _ (record { found = refl; served = w.service_at.ensures; weighs = refl; placed = p }) lead
-                w.if-table-i-eq1.true w.if-pcpu-lt64.true (sym w.runs_before.ensures ∙ w.if-runs_before.true))
-            | then-table-i-eq1+then-pcpu-lt64+else-runs_before w ↦
-                let p = first_for t d i _ _ w.mask_at.ensures w.first_idle_pcpu_for-pcpu.ensures in
-                rw w.best-is
-                (stays t d best _ (record { found = refl; served = w.service_at.ensures; weighs = refl; placed = p }) lead
-                (sym w.runs_before.ensures ∙ w.if-runs_before.false))
-            | then-table-i-eq1+else-pcpu-lt64 w ↦
-                rw w.best-is
-                (unplaced t d i _ best (first_for t d i _ _ w.mask_at.ensures w.first_idle_pcpu_for-pcpu.ensures) w.if-pcpu-lt64.false lead)
-            | else-table-i-eq1 w ↦ rw w.best-is (skips t d i best w.if-table-i-eq1.false lead)
-          ]),
-    )
+    let lead = c.loop-i.invariant in
+    rw
+    add-one
+    (elim c.if-waits.branch [
+      | then-waits+then-pcpu-lt64+then-goes_before w ↦
+          let p = first_for t d i _ w.first_idle_pcpu-pcpu.ensures in
+          rw (w.best-is, w.leader-next.ensures)
+          (takes t d best _ (record { served = refl; weighs = refl; placed = p }) lead
+          (sym c.waits.ensures ∙ w.if-waits.true) w.if-pcpu-lt64.true
+          (rw w.leader-next.ensures at (sym w.goes_before.ensures ∙ w.if-goes_before.true)))
+      | then-waits+then-pcpu-lt64+else-goes_before w ↦
+          let p = first_for t d i _ w.first_idle_pcpu-pcpu.ensures in
+          rw w.best-is
+          (stays t d best _ (record { served = refl; weighs = refl; placed = p }) lead
+          (rw w.leader-next.ensures at (sym w.goes_before.ensures ∙ w.if-goes_before.false)))
+      | then-waits+else-pcpu-lt64 w ↦
+          rw w.best-is (unplaced t d i _ best (first_for t d i _ w.first_idle_pcpu-pcpu.ensures) w.if-pcpu-lt64.false lead)
+      | else-waits w ↦ rw w.best-is (skips t d i best (sym c.waits.ensures ∙ w.if-waits.false) lead)
+    ])

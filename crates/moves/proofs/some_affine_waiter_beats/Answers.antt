@@ -1,57 +1,50 @@
 -- What `moves::some_affine_waiter_beats` leaves to show. Assumes nothing.
-use Rattle.std.proofs.Common.{refl, sym, ◌∙◌, inl, inr, zero-le, add-one, rules, eq-eqb, ne_eqb}
+use Rattle.std.proofs.Common.{refl, sym, ◌∙◌, add-one, rules}
+use Rattle.std.proofs.Math.Bool.{and-false}
 use Rattle.scans.specs.Scan.{scan}
 use Rattle.moves.specs.Decide.{beaten}
 use Rattle.moves.specs.DecideLaws.{by-beaten}
 use Rattle.moves.specs.Table.{tabled}
-use Rattle.moves.proofs.BeatenLoop.{unbeaten, admits-same, beats-same}
+use Rattle.moves.proofs.BeatenLoop.{unbeaten}
 use Rattle.moves.proofs.some_affine_waiter_beats.Goals as goal
-use Rattle.moves.proofs.some_affine_waiter_beats.Goals.{then-table-i-eq1+then-mask_permits+else-more_deserving, then-table-i-eq1+else-mask_permits, else-table-i-eq1}
+use Rattle.moves.proofs.some_affine_waiter_beats.Goals.{else-waits-via-then-waits+then-mask_permits+else-more_deserving, else-waits-via-then-waits+else-mask_permits, else-waits-via-else-waits}
 
-pub loop-i-init : goal.loop-i-init
+pub loop-row-init : goal.loop-row-init
 unfolding beaten scan
-loop-i-init c = (zero-le, refl)
+loop-row-init c = refl
 
 pub returns-then-more_deserving : goal.returns-then-more_deserving
 unfolding tabled
 returns-then-more_deserving c =
-    let t = c.args.table.now in
-    let x = c.args.runner in
-    let i = c.loop-i.i in
-    let p = c.requires.1 in
+    let p = c.requires in
     sym
     (by-beaten
-    (tabled t 0)
-    c.args.n
-    x.at
-    i
+    (tabled c.args.rows.now 0)
+    _
+    c.args.runner.now.at
+    c.loop-row.row-index
     (record {
       below = search rules;
-      waits = eq-eqb _ _ c.if-table-i-eq1.true;
-      admits = sym (admits-same t x p i _ c.mask_at.ensures) ∙ sym c.mask_permits.ensures ∙ c.if-mask_permits.true;
-      wins = sym (beats-same t x p i _ c.service_at.ensures) ∙ sym c.more_deserving.ensures ∙ c.if-more_deserving.true;
+      waits = sym c.waits.ensures ∙ c.if-waits.true;
+      admits = rw (← p.placed) (sym c.mask_permits.ensures ∙ c.if-mask_permits.true);
+      wins = rw (← p.served, ← p.weighs) (sym c.more_deserving.ensures ∙ c.if-more_deserving.true);
     }))
 
-pub loop-i-preserved : goal.loop-i-preserved
+pub loop-row-preserved : goal.loop-row-preserved
 unfolding tabled
-loop-i-preserved c =
-    let t = c.args.table.now in
-    let x = c.args.runner in
-    let i = c.loop-i.i in
-    let p = c.requires.1 in (
-      search rules,
-      rw
-          add-one
-          (unbeaten
-          (tabled t 0)
-          i
-          x.at
-          c.loop-i.invariant.1
-          (elim c.if-table-i-eq1.branch [
-            | then-table-i-eq1+then-mask_permits+else-more_deserving w ↦
-                inr (inr (sym (beats-same t x p i _ w.service_at.ensures) ∙ sym w.more_deserving.ensures ∙ w.if-more_deserving.false))
-            | then-table-i-eq1+else-mask_permits w ↦
-                inr (inl (sym (admits-same t x p i _ w.mask_at.ensures) ∙ sym w.mask_permits.ensures ∙ w.if-mask_permits.false))
-            | else-table-i-eq1 w ↦ inl (ne_eqb _ _ w.if-table-i-eq1.false)
-          ])),
-    )
+loop-row-preserved c =
+    let p = c.requires in
+    rw
+    add-one
+    (unbeaten
+    (tabled c.args.rows.now 0)
+    c.loop-row.row-index
+    c.args.runner.now.at
+    c.loop-row.invariant
+    (rw (← p.placed, ← p.served, ← p.weighs)
+    (elim c.else-waits.branch [
+      | else-waits-via-then-waits+then-mask_permits+else-more_deserving w ↦
+          rw (sym w.more_deserving.ensures ∙ w.if-more_deserving.false) (rw (and-false, and-false))
+      | else-waits-via-then-waits+else-mask_permits w ↦ rw (sym w.mask_permits.ensures ∙ w.if-mask_permits.false) (and-false _)
+      | else-waits-via-else-waits w ↦ rw (sym c.waits.ensures ∙ w.if-waits.false)
+    ])))

@@ -1,5 +1,5 @@
 -- `text::pcpu_line` meets its contract. Assumes nothing.
-use Rattle.std.proofs.Common.{zero-le}
+use Rattle.std.proofs.Common.{◌∙◌, zero-le}
 use Rattle.text.specs.Lines.{pcpu_line}
 use Rattle.text.specs.Places.{placed-then, line-of}
 use Rattle.text.proofs.pcpu_line.Goals as goal
@@ -9,4 +9,4 @@ unfolding pcpu_line
 returns c =
     let opened = placed-then zero-le c.put_byte-a.ensures c.put_byte-b.ensures in
     let numbered = placed-then zero-le (placed-then zero-le opened c.put_field-c.ensures.placed) c.put_field-d.ensures.placed in
-    line-of (placed-then zero-le (placed-then zero-le numbered c.put_field-e.ensures.placed) c.put_byte-length.ensures)
+    c.line_until.ensures ∙ line-of (placed-then zero-le (placed-then zero-le numbered c.put_field-e.ensures.placed) c.put_byte-end.ensures)

@@ -1,22 +1,20 @@
 -- `text::put_answer_line` meets its contract. Assumes nothing.
-use Rattle.std.proofs.Common.{◌≤◌, length, arith}
+use Rattle.std.proofs.Common.{◌+◌, ◌≤◌, ◌<◌, length, arith}
 use Rattle.text.specs.Lines.{answer_line, answer_room}
 use Rattle.text.specs.Places.{placed-then, crowded, put-within}
 use Rattle.text.specs.AnswerPlaces.{answer_put, answer_end}
 use Rattle.text.proofs.put_answer_line.Goals as goal
+use Rattle.text.proofs.put_answer_line.Goals.{then-out-lt-ANSWER_ROOM-via-then-out-lt-ANSWER_ROOM, then-out-lt-ANSWER_ROOM-via-else-out-lt-ANSWER_ROOM+then-out-at}
 
 pub returns-then-out-lt-ANSWER_ROOM : goal.returns-then-out-lt-ANSWER_ROOM
 unfolding answer_put answer_end
 returns-then-out-lt-ANSWER_ROOM c =
     let a = c.args in
-    let none = crowded answer_room a.out.now (answer_line a.number a.answer a.moves) a.at (omega arith) in
-    record { out_after = none.0; value = none.1 }
-
-pub returns-then-at-out : goal.returns-then-at-out
-unfolding answer_put answer_end
-returns-then-at-out c =
-    let a = c.args in
-    let none = crowded answer_room a.out.now (answer_line a.number a.answer a.moves) a.at (omega arith) in
+    let crowd : length a.out.now < a.at + answer_room = elim c.then-out-lt-ANSWER_ROOM.branch [
+      | then-out-lt-ANSWER_ROOM-via-then-out-lt-ANSWER_ROOM w ↦ omega arith
+      | then-out-lt-ANSWER_ROOM-via-else-out-lt-ANSWER_ROOM+then-out-at w ↦ omega arith
+    ] in
+    let none = crowded answer_room a.out.now (answer_line a.number a.answer a.moves) a.at crowd in
     record { out_after = none.0; value = none.1 }
 
 pub returns : goal.returns

@@ -1,13 +1,9 @@
--- `text::put_fields`: the first i numbers are put. Assumes nothing.
-use Rattle.std.proofs.Common.{◌≡◌, ◌+◌, ◌*◌, ◌-◌, ◌≤◌, length, take}
+-- `text::put_fields`: the numbers that were passed are put. Assumes nothing.
+use Rattle.std.proofs.Common.{◌+◌, ◌*◌, ◌≤◌, take}
 use Rattle.text.specs.Lines.{fields}
 use Rattle.text.specs.Places.{Placed}
 use Rattle.text.proofs.put_fields.Given as goal
 
-abbrev pub invariant-loop-i : goal.invariant-loop-i
-invariant-loop-i l =
-    Placed l.fn.out l.at (fields (take l.i l.numbers)) l.out l.past × (l.i ≤ 9) × (l.past ≤ l.at + l.i * 21)
-    × (length l.out ≡ length l.fn.out)
-
-abbrev pub decreases-loop-i : goal.decreases-loop-i
-decreases-loop-i l = 9 - l.i
+abbrev pub invariant-loop-n : goal.invariant-loop-n
+invariant-loop-n l =
+    record { placed : Placed l.fn.out l.at (fields (take l.n-index l.n-items)) l.out l.past; short : l.past ≤ l.at + l.n-index * 21 }

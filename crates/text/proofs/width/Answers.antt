@@ -1,17 +1,12 @@
 -- `text::width` meets its contract. Assumes nothing.
-use Rattle.std.proofs.Common.{length, ap, arith}
-use Rattle.text.specs.Lengths.{decimal-short}
-use Rattle.text.proofs.DigitsInPlace.{decimal-one, decimal-longer}
+use Rattle.std.proofs.Common.{length, ap, sym, arith}
+use Rattle.text.proofs.DigitsInPlace.{decimal-one, decimal-width}
 use Rattle.text.proofs.width.Goals as goal
 
-pub loop-left-preserved : goal.loop-left-preserved
-loop-left-preserved c =
-    let l = c.loop-left in
-    let longer = decimal-longer l.left (omega arith) l.invariant.1 in
-    (omega arith, omega arith)
+pub returns-in-None : goal.returns-in-None
+returns-in-None c = sym (ap length (decimal-one c.args.n (omega (arith, c.in-None.ensures.none))))
 
-pub overflow_add-k : goal.overflow_add-k
-overflow_add-k c = omega (arith, decimal-short c.args.n)
-
-pub returns : goal.returns
-returns c = omega (arith, ap length (decimal-one c.loop-left.left (omega arith)))
+pub returns-in-Some : goal.returns-in-Some
+returns-in-Some c =
+    let said = c.in-Some.ensures in
+    sym (decimal-width c.in-Some.k c.args.n said.bound said.power_le said.next_power_gt)

@@ -1,5 +1,5 @@
 -- After u turns of the loop the first u vCPUs are added, less than 2^65 each. Assumes nothing.
-use Rattle.std.proofs.Common.{ℕ, ◌*◌, ◌-◌, ◌^◌, ◌≤◌, ◌≡◌}
+use Rattle.std.proofs.Common.{ℕ, ◌*◌, ◌^◌, ◌≤◌, ◌≡◌}
 use Rattle.service.specs.Service.{held}
 use Rattle.system.specs.declared.System.{System}
 use Rattle.system.specs.Records.{runtime_until}
@@ -17,8 +17,4 @@ unfoldable pub Bounded : System → ℕ → ℕ → ℕ → Type 0
 Bounded s d now k = so_far s d now k ≤ k * 2 ^ 65
 
 abbrev pub invariant-loop-u : goal.invariant-loop-u
-invariant-loop-u l =
-    (l.total.sum ≡ held (so_far l.s l.dom l.now l.u)) × (l.u ≤ l.n) × Bounded l.s l.dom l.now l.u
-
-abbrev pub decreases-loop-u : goal.decreases-loop-u
-decreases-loop-u l = l.n - l.u
+invariant-loop-u l = (l.total ≡ held (so_far l.fn.s l.dom l.now l.u)) × Bounded l.fn.s l.dom l.now l.u

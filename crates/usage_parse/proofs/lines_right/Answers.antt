@@ -1,19 +1,13 @@
--- `usage_parse::lines_right` meets its contract: the loop leaves at the first line that is wrong. Assumes nothing.
-use Rattle.std.proofs.Common.{refl, sym, arith}
-use Rattle.usage_layout.specs.Reading.{all, line_right}
-use Rattle.usage_parse.proofs.All.{all_more, one-fails}
+-- `usage_parse::lines_right` meets its contract. Assumes nothing.
+use Rattle.std.proofs.Common.{◌∙◌, refl, arith, rules, tests}
+use Rattle.std.proofs.lemmas.Iterator.{YieldsList-from_range}
+use Rattle.std.proofs.lemmas.Iterator.Search.{all_from_yields_List}
+use Rattle.usage_layout.specs.Reading.{line_right}
+use Rattle.usage_parse.proofs.All.{all-below}
 use Rattle.usage_parse.proofs.lines_right.Goals as goal
 
-pub loop-d-init : goal.loop-d-init
-unfolding all
-loop-d-init c = (omega arith, refl)
-
-pub returns-then-not-right : goal.returns-then-not-right
-returns-then-not-right c =
-    sym (one-fails c.args.n (line_right c.args.s.now c.args.n c.args.k) c.loop-d.d (omega arith) (sym c.if-not-right.ensures))
-
-pub loop-d-preserved : goal.loop-d-preserved
-loop-d-preserved c = (
-  omega arith,
-  all_more c.loop-d.d (line_right c.args.s.now c.args.n c.args.k) c.loop-d.invariant.1 (sym c.if-not-right.ensures),
-)
+pub returns : goal.returns
+returns c =
+    let a = c.args in
+    let right = line_right a.s.now a.n a.k in
+    all_from_yields_List right _ _ _ c.all.ensures.ran (YieldsList-from_range 0 a.n a.n refl (omega arith)) (λ x b q k. search (rules, tests)) ∙ all-below a.n right

@@ -1,5 +1,5 @@
 -- `usage_parse::service_at` meets its contract: 16 bytes are four words, the most significant first. Assumes nothing.
-use Rattle.std.proofs.Common.{ℕ, zero, suc, ◌+◌, ◌*◌, ◌^◌, ◌<◌, List, [], ◌∷◌, ◌≡◌, refl, sym, ◌∙◌, ap, ap₂, arith}
+use Rattle.std.proofs.Common.{ℕ, zero, suc, ◌+◌, ◌*◌, ◌/◌, ◌≤◌, ◌^◌, ◌<◌, List, [], ◌∷◌, ◌≡◌, refl, sym, ◌∙◌, ap, ap₂, arith}
 use Rattle.std.proofs.Common.{lt-ltb, le-ltb, lit<, length, get_or}
 use Rattle.big_endian.specs.Numbers.{number}
 use Rattle.big_endian.specs.Laws.{number-add}
@@ -37,22 +37,27 @@ words-held a b c d u v w x =
     small (suc (suc (suc zero))) = x
     small (suc (suc (suc (suc i)))) = lit< tt
 
-pub returns-then-body-vcpu-clause-value : goal.returns-then-body-vcpu-clause-value
-unfolding limbs held
-returns-then-body-vcpu-clause-value c = simp (le-ltb _ _ c.if-body-vcpu.true)
+-- no vCPU, no service
+none : (body : List ℕ) (v : ℕ) → length body / 20 ≤ v → 0 ≡ service_at body v
+none body v h = simp (le-ltb _ _ h)
 
-pub returns-then-body-vcpu-clause-result_value : goal.returns-then-body-vcpu-clause-result_value
+pub returns-then-vcpu_count-vcpu-clause-value : goal.returns-then-vcpu_count-vcpu-clause-value
+unfolding limbs held
+returns-then-vcpu_count-vcpu-clause-value c = ap held (none c.args.body.now c.args.vcpu (omega arith))
+
+pub returns-then-vcpu_count-vcpu-clause-result_value : goal.returns-then-vcpu_count-vcpu-clause-result_value
 unfolding value
-returns-then-body-vcpu-clause-result_value c = simp (le-ltb _ _ c.if-body-vcpu.true)
+returns-then-vcpu_count-vcpu-clause-result_value c = none c.args.body.now c.args.vcpu (omega arith)
 
 pub returns-clause-result_value : goal.returns-clause-result_value
 unfolding value
 returns-clause-result_value c =
-    simp (lt-ltb _ _ c.if-body-vcpu.false)
-    (omega (arith, four-words c.args.body.now (c.args.vcpu * 20 + 4), c.word_at.ensures.value, c.word_at-2.ensures.value, c.word_at-3.ensures.value, c.word_at-4.ensures.value))
+    let there : c.args.vcpu < length c.args.body.now / 20 = omega arith in
+    simp (lt-ltb _ _ there)
+    (omega (arith, four-words c.args.body.now (c.args.vcpu * 20 + 4), c.read_at.ensures, c.read_at-2.ensures, c.read_at-3.ensures, c.read_at-4.ensures))
 
 pub returns-clause-value : goal.returns-clause-value
 returns-clause-value c =
-    let worth : value (c.word_at.result ∷ c.word_at-2.result ∷ c.word_at-3.result ∷ c.word_at-4.result ∷ []) ≡ service_at c.args.body.now c.args.vcpu =
+    let worth : value (c.read_at.result ∷ c.read_at-2.result ∷ c.read_at-3.result ∷ c.read_at-4.result ∷ []) ≡ service_at c.args.body.now c.args.vcpu =
     returns-clause-result_value c in
-    words-held _ _ _ _ c.word_at.ensures.bound c.word_at-2.ensures.bound c.word_at-3.ensures.bound c.word_at-4.ensures.bound ∙ ap held worth
+    words-held _ _ _ _ c.read_at.type_inv c.read_at-2.type_inv c.read_at-3.type_inv c.read_at-4.type_inv ∙ ap held worth

@@ -1,99 +1,92 @@
--- `usage_write::write` meets its contract: each vCPU's bytes are put right behind what is stored so far. Assumes nothing.
-use Rattle.std.proofs.Common.{ℕ, ◌+◌, ◌^◌, ◌≤◌, ◌<◌, sym, ◌∙◌, ap, zero-le, lit<, arith, rules}
-use Rattle.system.specs.declared.VirtualCpu.{VirtualCpu}
-use Rattle.system.specs.contracts.VirtualCpu as vcpu
-use Rattle.system.specs.Shape.{no_vcpu}
+-- `usage_write::write` meets its contract: each vCPU's bytes are put right behind what is there so far. Assumes nothing.
+use Rattle.std.proofs.Common.{ℕ, ◌≤◌, ◌≡◌, ◌/◌, ◌%◌, List, ◌++◌, sym, ◌∙◌, ap, length, replicate, arith}
+use Rattle.arrayvec.specs.ArrayVec.{ArrayVec}
+use Rattle.big_endian.specs.Numbers.{bytes}
+use Rattle.big_endian.specs.Laws.{length-bytes}
+use Rattle.service.specs.Service.{value}
 use Rattle.system.specs.Records.{runtime_until}
 use Rattle.system.specs.Reads.{vcpu_at}
 use Rattle.system.specs.Slots.{slot_of}
-use Rattle.policy.specs.declared.Account.{Account}
-use Rattle.policy.specs.contracts.Account as account
-use Rattle.policy.specs.Accounts.{blank_account, account_at, used_weight}
-use Rattle.policy.proofs.Laws.{looked}
-use Rattle.usage_layout.proofs.Laws.{file-short, has-file}
+use Rattle.policy.specs.Accounts.{used_weight}
+use Rattle.usage_layout.specs.Layout.{usge}
+use Rattle.usage_layout.proofs.Laws.{vcpu-length, file-short, has-file}
 use Rattle.usage_write.specs.Written.{figures_of}
-use Rattle.usage_write.proofs.EachElement.{each_element}
-use Rattle.usage_write.proofs.Fits.{figures-within}
+use Rattle.usage_write.proofs.Fits.{none-fit, next-fit, absent-fit, figures-within}
 use Rattle.usage_write.proofs.FileLoop.{none-stored, next-stored, absent-stored, room, file-stored}
+use Rattle.usage_write.proofs.Stores.{stored-whole}
 use Rattle.usage_write.proofs.write.Goals as goal
 use Rattle.usage_write.proofs.write.Goals.{then-i-k, else-i-k}
 
 pub loop-i-init : goal.loop-i-init
-unfolding figures_of account_at vcpu_at
+unfolding figures_of
 loop-i-init c =
     let a = c.args in
-    let weights : (i : ℕ) → (account_at a.p i).weight < 2 ^ 32 =
-    each_element (account.the_row).own_val (λ (x : Account). x.weight < 2 ^ 32) a.p.accounts _ c.well_formed.1.0.1.1.1.1.0.1.1 (λ x u h. search rules)
-    blank_account (lit< tt) in
-    let times : (i : ℕ) → (vcpu_at a.s i).runtime < 2 ^ 64 =
-    each_element (vcpu.the_row).own_val (λ (x : VirtualCpu). x.runtime < 2 ^ 64) a.s.vcpus _ c.well_formed.0.1.1.1.1.1.0.1.1 (λ x u h. search rules)
-    no_vcpu (lit< tt) in
+    let n = c.domain_count-n in
+    let magic = c.push.ensures ∙ ap (λ (t : List ℕ). t ++ usge) c.new-file.ensures in
+    let count = c.put_at.ensures ∙ stored-whole (replicate 2 0) (bytes 2 n.result) (length-bytes 2 n.result) in
+    let f = figures_of a.s.now a.p.now a.now in
     record {
-      stored = none-stored (figures_of a.s a.p a.now) _ _ c.least-n.ensures c.least-k.ensures c.put_magic.ensures c.put_half.ensures
-          c.put_entries.ensures;
-      passed = zero-le;
-      within = figures-within a.s a.p a.now weights times c.ranges.now.fits;
-      tabled = record { accounts = search rules };
+      stored = none-stored f _ _ n.ensures c.vcpus_per_domain-k.ensures magic count c.push-2.ensures c.push_entries.ensures;
+      fit = none-fit f;
     }
 
-pub put_vcpu-requires : goal.put_vcpu-requires
+pub push-requires-then-i-k : goal.push-requires-then-i-k
 unfolding figures_of
-put_vcpu-requires c =
+push-requires-then-i-k c =
     let a = c.args in
-    let h = c.loop-i.invariant in
-    room (figures_of a.s a.p a.now) h.within c.loop-i.i h.stored (omega (arith, c.least-n.ensures, c.loop-i-test.true))
-    (omega (arith, c.least-k.ensures, c.if-i-k.true))
-
-pub overflow_add-at-then-i-k : goal.overflow_add-at-then-i-k
-unfolding figures_of
-overflow_add-at-then-i-k c =
-    let a = c.args in
-    let h = c.loop-i.invariant in
-    let space : c.loop-i.at + 20 ≤ 2662 =
-    room (figures_of a.s a.p a.now) h.within c.loop-i.i h.stored (omega (arith, c.least-n.ensures, c.loop-i-test.true))
-    (omega (arith, c.least-k.ensures, c.if-i-k.true)) in
-    omega arith
+    let space =
+    room (figures_of a.s.now a.p.now a.now) c.loop-i.i c.loop-i.invariant.stored (omega arith) (omega arith)
+    (omega (arith, c.domain_count-n.ensures, c.loop-i-test.true)) (omega (arith, c.vcpus_per_domain-k.ensures, c.if-i-k.true)) in
+    let made = vcpu-length c.used_weight-weight.result (value c.runtime_until-service.result) in
+    omega (arith, space, made, ap length c.vcpu_bytes.ensures)
 
 pub loop-i-preserved : goal.loop-i-preserved
 unfolding figures_of vcpu_at
 loop-i-preserved c =
     let a = c.args in
-    let f = figures_of a.s a.p a.now in
+    let s = a.s.now in
+    let f = figures_of s a.p.now a.now in
     let h = c.loop-i.invariant in
     let i = c.loop-i.i in
-    let below : c.loop-i.i < 128 = omega (arith, c.least-n.ensures, c.loop-i-test.true) in
-    record {
-      stored = elim c.if-i-k.branch [
-        | then-i-k w ↦
-            next-stored f h.within i h.stored (omega (arith, c.least-k.ensures, w.if-i-k.true))
-            (w.used_weight.ensures ∙ ap used_weight (w.looked_up-account.ensures ∙ looked a.p h.tabled i below))
-            (w.runtime_until.ensures.result_value ∙ ap (λ (j : ℕ). runtime_until (vcpu_at a.s j) a.now) (sym (slot_of i)))
-            (w.out-is ∙ w.put_vcpu.ensures) w.at-is
-        | else-i-k w ↦ absent-stored f h.within i h.stored (omega (arith, c.least-k.ensures, w.if-i-k.false)) w.out-is w.at-is
-      ];
-      passed = omega arith;
-      within = h.within;
-      tabled = h.tabled;
-    }
+    elim c.if-i-k.branch [
+      | then-i-k w ↦
+          let weight : w.used_weight-weight.result ≡ f.weight (i / 8) (i % 8) = w.used_weight-weight.ensures ∙ ap used_weight w.account_at.ensures in
+          let run = w.runtime_until-service.ensures in
+          let same = ap (λ (j : ℕ). runtime_until (vcpu_at s j) a.now) (sym (slot_of i)) in
+          let service : value w.runtime_until-service.result ≡ f.service (i / 8) (i % 8) = run.exact ∙ same in
+          let file = ap (λ (v : ArrayVec ℕ). v.items) w.file-is ∙ w.push-then-i-k.ensures ∙ ap (λ (t : List ℕ). c.loop-i.file.items ++ t) w.vcpu_bytes.ensures in
+          record {
+            stored = next-stored f i h.stored (omega arith) (omega (arith, c.vcpus_per_domain-k.ensures, w.if-i-k.true)) weight service file;
+            fit = next-fit f (omega arith) i h.fit (omega (arith, weight, w.used_weight-weight.type_inv)) (omega (arith, same, run.bound));
+          }
+      | else-i-k w ↦
+          let none : f.vcpus ≤ i % 8 = omega (arith, c.vcpus_per_domain-k.ensures, w.if-i-k.false) in
+          record {
+            stored = absent-stored f i h.stored (omega arith) none (ap (λ (v : ArrayVec ℕ). v.items) w.file-is);
+            fit = absent-fit f (omega arith) i h.fit none;
+          }
+    ]
 
 pub returns-clause-bytes_value : goal.returns-clause-bytes_value
 unfolding figures_of
 returns-clause-bytes_value c =
     let a = c.args in
     let h = c.loop-i.invariant in
-    let stored = file-stored (figures_of a.s a.p a.now) h.within c.loop-i.i h.stored (omega (arith, c.least-n.ensures)) in
-    stored.0
+    file-stored (figures_of a.s.now a.p.now a.now) c.loop-i.i h.stored (omega arith) (omega (arith, c.domain_count-n.ensures))
 
 pub returns-clause-length_value : goal.returns-clause-length_value
 unfolding figures_of
 returns-clause-length_value c =
     let a = c.args in
-    let f = figures_of a.s a.p a.now in
+    let f = figures_of a.s.now a.p.now a.now in
     let h = c.loop-i.invariant in
-    let stored = file-stored f h.within c.loop-i.i h.stored (omega (arith, c.least-n.ensures)) in
-    (stored.1, omega (arith, stored.1, file-short f h.within))
+    let whole = ap length (file-stored f c.loop-i.i h.stored (omega arith) (omega (arith, c.domain_count-n.ensures))) in
+    let within = figures-within a.s.now a.p.now a.now c.loop-i.i h.fit (omega (arith, c.domain_count-n.ensures)) in
+    (whole, omega (arith, whole, file-short f within))
 
 pub returns-clause-says : goal.returns-clause-says
+unfolding figures_of
 returns-clause-says c =
     let a = c.args in
-    has-file (figures_of a.s a.p a.now) c.loop-i.invariant.within
+    has-file (figures_of a.s.now a.p.now a.now)
+    (figures-within a.s.now a.p.now a.now c.loop-i.i c.loop-i.invariant.fit (omega (arith, c.domain_count-n.ensures)))

@@ -2,32 +2,26 @@
 use Rattle.std.proofs.Common.{refl, sym, ◌∙◌, add-one, arith}
 use Rattle.system.specs.Reads.{vcpu_at, occupant_at}
 use Rattle.verdict.specs.Violations.{pcpu_violation, earliest}
-use Rattle.verdict.specs.Sound.{is-none}
-use Rattle.verdict.proofs.VerdictScan.{step, stop, counts, pcpu-told}
+use Rattle.verdict.proofs.VerdictScan.{is-clean, step, stop, counts, pcpu-told}
 use Rattle.verdict.proofs.first_pcpu_violation.Goals as goal
 
 pub loop-p-init : goal.loop-p-init
 unfolding earliest
-loop-p-init c = record { clean = refl; within = omega arith }
+loop-p-init c = refl
 
-pub returns-then-not-is_none : goal.returns-then-not-is_none
+pub returns-then-is_some : goal.returns-then-is_some
 unfolding vcpu_at occupant_at
-returns-then-not-is_none c =
-    stop
-    (pcpu_violation c.args.s)
-    c.loop-p.p
-    _
-    c.loop-p.invariant.clean
-    (pcpu-told c.args.s c.requires c.loop-p.p _ _ c.holder_slot-j.ensures c.pcpu_violation-found.ensures)
-    (sym c.is_none.ensures ∙ c.if-not-is_none.true)
-    (omega (arith, counts c.args.s c.requires))
+returns-then-is_some c =
+    let s = c.args.s.now in
+    stop (pcpu_violation s) c.loop-p.p _ c.loop-p.invariant
+    (pcpu-told s c.requires c.loop-p.p _ _ c.holder_slot.ensures c.pcpu_violation-found.ensures)
+    (sym c.is_some.ensures ∙ c.if-is_some.true)
+    (omega (arith, counts s c.requires))
 
 pub loop-p-preserved : goal.loop-p-preserved
 unfolding vcpu_at occupant_at
 loop-p-preserved c =
-    let told = pcpu-told c.args.s c.requires c.loop-p.p _ _ c.holder_slot-j.ensures c.pcpu_violation-found.ensures in
-    let here = sym told ∙ is-none _ (sym c.is_none.ensures ∙ c.if-not-is_none.false) in
-    record {
-      clean = rw add-one (step (pcpu_violation c.args.s) c.loop-p.p c.loop-p.invariant.clean here);
-      within = omega arith;
-    }
+    let s = c.args.s.now in
+    let told = pcpu-told s c.requires c.loop-p.p _ _ c.holder_slot.ensures c.pcpu_violation-found.ensures in
+    let clean = sym told ∙ is-clean _ (sym c.is_some.ensures ∙ c.if-is_some.false) in
+    rw add-one (step (pcpu_violation s) c.loop-p.p c.loop-p.invariant clean)

@@ -3,4 +3,4 @@ use Rattle.page.proofs.Laws.{hands-step}
 use Rattle.promised.proofs.of_host.step.Goals as goal
 
 pub returns : goal.returns
-returns c = hands-step _ _ _ c.step.ensures.result_value
+returns c = hands-step _ _ _ _ c.step.ensures.stepped

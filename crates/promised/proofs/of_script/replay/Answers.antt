@@ -4,5 +4,5 @@ use Rattle.promised.proofs.of_script.replay.Goals as goal
 
 pub returns : goal.returns
 returns c =
-    let e = replayed-is c.args.states c.args.script c.args.bytes.now c.args.out.now _ _ c.replay.ensures in
-    record { handed_back = e.0; bytes_after = e.1 }
+    let e = replayed-is _ _ _ _ _ _ _ c.replay.ensures in
+    record { script = e.script; handed_back = e.handed_back; bytes_after = e.bytes_after }

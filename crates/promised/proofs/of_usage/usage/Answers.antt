@@ -4,5 +4,5 @@ use Rattle.promised.proofs.of_usage.usage.Goals as goal
 
 pub returns : goal.returns
 returns c =
-    let e = whole_is _ _ _ c.usage.ensures.value c.usage.ensures.result_value (usage-is _ _ _) in
+    let e = whole_is _ _ _ c.usage.ensures.held c.usage.ensures.exact (usage-is _ _ _) in
     record { limbs = e.0; exact = e.1 }

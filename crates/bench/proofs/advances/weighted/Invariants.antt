@@ -1,6 +1,0 @@
--- `bench::advances::weighted` ends: it counts its turns. Assumes nothing.
-use Rattle.std.proofs.Common.{◌-◌}
-use Rattle.bench.proofs.advances.weighted.Given as goal
-
-abbrev pub decreases-loop-i : goal.decreases-loop-i
-decreases-loop-i l = 128 - l.i

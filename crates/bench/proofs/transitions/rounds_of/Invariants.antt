@@ -1,6 +1,0 @@
--- `bench::transitions::rounds_of` ends: it counts its turns. Assumes nothing.
-use Rattle.std.proofs.Common.{◌-◌}
-use Rattle.bench.proofs.transitions.rounds_of.Given as goal
-
-abbrev pub decreases-loop-k : goal.decreases-loop-k
-decreases-loop-k l = l.rounds - l.k

@@ -1,6 +1,0 @@
--- `bench::usage_files::opened` ends: it counts its turns. Assumes nothing.
-use Rattle.std.proofs.Common.{◌-◌}
-use Rattle.bench.proofs.usage_files.opened.Given as goal
-
-abbrev pub decreases-loop-k : goal.decreases-loop-k
-decreases-loop-k l = l.rounds - l.k
