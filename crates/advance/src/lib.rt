@@ -22,6 +22,7 @@ use policy::{Account, Scheduler};
 use system::{Answer, DomId, Pcpu, PhysicalCpu, RunState, System, Ticks, Vcpu, VirtualCpu};
 
 /// What `next` recommends.
+// No Option: upstream's three outcomes, and the promises speak of Idle.
 #[derive(Clone, Copy, PartialEq, Eq)]
 pub enum Decision {
     Run { dom: DomId, vcpu: Vcpu, pcpu: Pcpu },
@@ -30,6 +31,7 @@ pub enum Decision {
 }
 
 /// What a call is told, and how many moves it enacted.
+// No Result: a script's line has both numbers, 0 moves beside a refusal.
 #[derive(Clone, Copy, PartialEq, Eq)]
 pub struct Outcome {
     pub answer: Answer,

@@ -186,6 +186,7 @@ pub fn changed(request: Request, v: VirtualCpu, pcpu_count: usize) -> Result<Cha
 // ---- what a change leaves
 
 /// What a change tells, and what stands after it at the vCPU's slot and at the change's pCPU.
+// No Result: a refusal hands both records back, and they are stored with no test.
 // The answer stands last: behind it the records would lie across words, and each read of them would wait.
 #[derive(Clone, Copy)]
 pub struct After {

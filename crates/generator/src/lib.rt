@@ -30,6 +30,7 @@ impl Generator {
     }
 
     /// The next number where it is wanted; else 0, and the generator stays as it was.
+    // No Option: the 0 is promised.
     pub fn draw_if(&mut self, wanted: bool) -> u64
         ensures { (result ≡ drawn_if wanted self.old.state) × (self.new.state ≡ state_if wanted self.old.state) }
     {

@@ -20,6 +20,7 @@ pub enum Kind {
 }
 
 /// The numbers that a call draws, in their order; 0 for one that it does not draw.
+// No Option: the zeros are promised.
 #[derive(Clone, Copy, PartialEq, Eq, Debug)]
 pub struct Numbers {
     pub kind: u64,

@@ -126,10 +126,10 @@ impl Load {
     /// Writes a stretch of the script: as many records as are still to come and as there is room for. The number of
     /// their bytes is handed back.
     pub fn fill(&mut self, out: &mut [u8]) -> usize
-        ensures out_after { out.new ≡ sets out.old 0 (stretch (fitting self.old out.old) self.old) }
+        ensures bytes { out.new ≡ sets out.old 0 (stretch (fitting self.old out.old) self.old) }
         ensures load { self.new ≡ (filled self.old out.old).load }
-        ensures value { result ≡ (filled self.old out.old).written }
-        ensures prefix_len { IsPrefixLen result out.new }
+        ensures written { result ≡ (filled self.old out.old).written }
+        ensures prefix { IsPrefixLen result out.new }
     {
         let n = self.records_left().min(out.len() / RECORD);
         for i in 0..n {

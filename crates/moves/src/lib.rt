@@ -19,6 +19,7 @@ pub const SLOTS: usize = 128;
 pub const LOG: usize = 320;
 
 /// One move, or none, by the slots of the table.
+// No Option: three outcomes, as upstream's decision has them.
 #[derive(Clone, Copy)]
 pub enum Choice {
     Run { at: usize, pcpu: u32 },
@@ -332,8 +333,8 @@ pub fn settle(
     slice: u64,
 ) -> usize
     ensures within { result ≤ 320 }
-    ensures value { result ≡ length (settled slice (min n 128) (min most 320) table.old idle) }
-    ensures result_after { logged_first log.new result ≡ settled slice (min n 128) (min most 320) table.old idle }
+    ensures count { result ≡ length (settled slice (min n 128) (min most 320) table.old idle) }
+    ensures logged { logged_first log.new result ≡ settled slice (min n 128) (min most 320) table.old idle }
 {
     let mut left = most.min(LOG);
     let mut count: usize = 0;

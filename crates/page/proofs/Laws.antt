@@ -19,7 +19,7 @@ pub use Rattle.page.proofs.LineLaws.{put-answer-is, past-answer-is}
 pub use Rattle.page.proofs.LineLaws.{numbers-line-is, pcpu-line-is, usage-line-of}
 pub use Rattle.page.proofs.ScriptLaws.{record_at-is, put_record_is, plan-is, begun-is, replayed-is, output-is, example-is}
 -- usage files, and what 2.3 says of them
-pub use Rattle.page.proofs.UsageFileLaws.{file-is}
+pub use Rattle.page.proofs.UsageFileLaws.{file-is, written_is}
 pub use Rattle.page.proofs.UsageAccepted.{count-is}
 pub use Rattle.page.proofs.UsageReadLaws.{told_is, body_is, place_is, told-by-is, body-by-is, place-by-is}
 pub use Rattle.page.proofs.UsageTextLaws.{weight-of-body-is, service-of-body-is, body-text-is}

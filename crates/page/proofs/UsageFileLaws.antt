@@ -1,8 +1,9 @@
 -- The usage file of any figures, and that of any host at a reading, are the page's. Assumes nothing.
-use Prim.Native.Nat.{ℕ, ◌+◌, ◌<◌}
+use Prim.Native.Nat.{ℕ, ◌+◌, ◌-◌, ◌<◌}
 use mathlib.Core.List.{List, ◌++◌}
 use mathlib.Core.Path.{◌≡◌, refl, ◌∙◌, ap, ap₂}
 use native.Mathlib.Omega.{arith}
+use lib.ListN.{length, replicate}
 use Rattle.system.specs.declared.System.{System}
 use Rattle.system.specs.Reads.{vcpu_at}
 use Rattle.policy.specs.declared.Scheduler.{Scheduler}
@@ -55,3 +56,8 @@ unfolding figures_of page.file account_of account_at vcpu_at
 file-is s π now =
     layout_is (figures_of s π now) (weight π) (ran s now) (λ d v _ _. refl)
     (λ d v _ _. ap (λ (n : ℕ). (vcpu s d v).runtime + n) (flight-is (vcpu s d v) now))
+
+pub written_is : (s : System) (π : Scheduler) (now : ℕ) → layout.padded (layout.file (figures_of s π now))
+    ≡ page.written s π now
+unfolding layout.padded
+written_is s π now = ap (λ (l : List ℕ). l ++ replicate (2662 - length l) 0) (file-is s π now)

@@ -1,5 +1,5 @@
 -- The monthly usage file of 2.3: its layout, as it is written, as it is read, and its lines.
-use Rattle.std.specs.Prelude.{ℕ, ◌+◌, ◌-◌, ◌*◌, ◌/◌, min, Bool, false, cond, ◌&&◌, List, [], ◌∷◌, ◌++◌, ltb, leb, eqb, length, get_or, take, drop, Option, None, Some}
+use Rattle.std.specs.Prelude.{ℕ, ◌+◌, ◌-◌, ◌*◌, ◌/◌, min, Bool, false, cond, ◌&&◌, List, [], ◌∷◌, ◌++◌, ltb, leb, eqb, length, get_or, take, drop, replicate, Option, None, Some}
 use Rattle.system.specs.declared.System.{System}
 use Rattle.policy.specs.declared.Scheduler.{Scheduler}
 use Rattle.page.specs.Host.{domains, vcpus, vcpu}
@@ -30,6 +30,10 @@ ran s now d v = let x = vcpu s d v in x.runtime + in_flight x.state (now - x.dis
 
 unfoldable pub file : System → Scheduler → ℕ → List ℕ
 file s π now = layout (domains s) (vcpus s) (weight π) (ran s now)
+
+-- in the room of the largest, with zeros past it
+abbrev pub written : System → Scheduler → ℕ → List ℕ
+written s π now = file s π now ++ replicate (2662 - length (file s π now)) 0
 
 -- ---- Read
 abbrev pub domains_in : List ℕ → ℕ

@@ -33,6 +33,7 @@ pub struct Shape {
 }
 
 /// What a script does of a record: it is refused, or a host is built, or the host is called.
+// No Result: the three cases are promised as one plan.
 #[derive(Clone, Copy)]
 pub enum Plan {
     Refuse(Answer),
@@ -54,6 +55,7 @@ fn record_of(bytes: &[u8]) -> Record
 }
 
 /// What the record at the start of the bytes says; one that is cut off is of no kind.
+// No Option: kind 65535, which names no call, is promised of it.
 #[tactic(auto, unfolding(crate::specs::Records::record_at))]
 pub fn record_at(bytes: &[u8]) -> Record
     ensures { result ≡ record_at bytes.now }

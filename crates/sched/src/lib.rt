@@ -28,6 +28,7 @@ pub fn pcpu_read(request: Request, v: &VirtualCpu) -> usize
 }
 
 /// What a request needs of a system beside the records that it reads.
+// No Option for the counts: an unsound system has them too, and `FrameOf` promises both.
 #[derive(Clone, Copy)]
 pub struct Frame {
     pub sound: bool,

@@ -22,6 +22,7 @@ use system::{Answer, PhysicalCpu, VirtualCpu};
 pub const ENTRY_ROOM: usize = 28_700;
 
 /// A script that is under way: how many records it had, and its host, once one is built.
+// No Option: before a build there stands the host of nothing, of which `script_next` speaks.
 #[derive(Clone, Copy)]
 pub struct Script {
     pub number: u64,

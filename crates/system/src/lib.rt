@@ -17,6 +17,7 @@ ghost use Rattle.system.specs.Slots.{domains, vcpus, pcpus, slot_read};
 use service::Service;
 
 /// A domain id: an index into the system's domains.
+// Domain and vCPU stand as two parameters, as in upstream's signatures, which are promised one by one.
 pub type DomId = u16;
 /// A vCPU id within its domain.
 pub type Vcpu = u32;
@@ -78,6 +79,7 @@ pub struct System {
 }
 
 /// What a call is told. The number by which an answer is told is its own.
+// One list, with 0 for done: a line of a script is written from it.
 #[derive(Clone, Copy, PartialEq, Eq)]
 pub enum Answer {
     Done = 0,

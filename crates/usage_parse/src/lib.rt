@@ -109,8 +109,8 @@ pub fn answer_at(count: Option<usize>, domain: usize) -> Answer
 
 /// A domain's body: that stretch of the slice, found from the table of contents; an empty one where there is none.
 pub fn body_at(file: &[u8], count: Option<usize>, domain: usize) -> &[u8]
-    ensures result_value { result.now ≡ stretch_at file.now count domain }
-    ensures ref_ptr_value { result.ref_ptr ≡ place_at file.entry count domain }
+    ensures body { result.now ≡ stretch_at file.now count domain }
+    ensures place { result.ref_ptr ≡ place_at file.entry count domain }
 {
     let none = &file[..0];
     let Some(n) = count else {
@@ -137,6 +137,7 @@ pub fn vcpu_count(body: &[u8]) -> usize
 }
 
 /// A vCPU's weight; 0 for one that the body has not.
+// No Option: the 0 is promised.
 pub fn weight_at(body: &[u8], vcpu: usize) -> u32
     ensures { result ≡ weight_at body.now vcpu }
 {
@@ -147,9 +148,10 @@ pub fn weight_at(body: &[u8], vcpu: usize) -> u32
 }
 
 /// A vCPU's service; 0 for one that the body has not.
+// No Option: the 0 is promised.
 pub fn service_at(body: &[u8], vcpu: usize) -> Service
-    ensures value { result ≡ held (service_at body.now vcpu) }
-    ensures result_value { value result ≡ service_at body.now vcpu }
+    ensures held { result ≡ held (service_at body.now vcpu) }
+    ensures exact { value result ≡ service_at body.now vcpu }
 {
     if vcpu_count(body) <= vcpu {
         return [0; 4];

@@ -38,15 +38,15 @@ impl<'a> Reader<'a> {
 
     /// A domain's body: that stretch of the file itself, empty unless the answer is Done.
     pub fn body(self, domain: usize) -> &'a [u8]
-        ensures result_value { result.now ≡ stretch_at self.entry.file.now self.entry.count domain }
-        ensures ref_ptr_value { result.ref_ptr ≡ place_at self.entry.file self.entry.count domain }
+        ensures body { result.now ≡ stretch_at self.entry.file.now self.entry.count domain }
+        ensures place { result.ref_ptr ≡ place_at self.entry.file self.entry.count domain }
     {
         body_at(self.file, self.count, domain)
     }
 
     /// The lines of its first n domains, of at most sixteen, each from that domain's body.
     pub fn text(self, n: usize) -> FileText
-        ensures value { result.text.items ≡ file_lines self.entry.file.now self.entry.count n }
+        ensures lines { result.text.items ≡ file_lines self.entry.file.now self.entry.count n }
         ensures count { result.count ≡ self.entry.count }
     {
         file_text(self.file, self.count, n)
@@ -69,7 +69,7 @@ pub fn body_of(file: &[u8], domain: usize) -> &[u8]
 
 /// The lines of the first n domains that a reader of the file gives: it is opened once.
 pub fn text_of(file: &[u8], n: usize) -> FileText
-    ensures value { result.text.items ≡ lines_of file.now n }
+    ensures lines { result.text.items ≡ lines_of file.now n }
     ensures count { result.count ≡ count_in file.now }
 {
     Reader::open(file).text(n)

@@ -49,7 +49,7 @@ fn push_body<const N: usize>(out: &mut ArrayVec<u8, N>, domain: u64, body: &[u8]
 
 /// A line for each vCPU of a body, of which a domain has at most eight.
 pub fn body_text(domain: u64, body: &[u8]) -> BodyText
-    ensures value { result.items ≡ body_lines domain body.now }
+    ensures lines { result.items ≡ body_lines domain body.now }
 {
     let mut text = BodyText::new();
     push_body(&mut text, domain, body);
@@ -58,7 +58,7 @@ pub fn body_text(domain: u64, body: &[u8]) -> BodyText
 
 /// The lines of the first n domains, of at most sixteen, of a file with that count.
 pub fn file_text(file: &[u8], count: Option<usize>, n: usize) -> FileText
-    ensures value { result.text.items ≡ file_lines file.now count n }
+    ensures lines { result.text.items ≡ file_lines file.now count n }
     ensures count { result.count ≡ count }
 {
     let mut text = ArrayVec::new();

@@ -70,8 +70,8 @@ fn push_entries(file: &mut Written, n: usize, k: usize)
 
 /// The usage file of a system and a policy, damaged or not, as reads see them.
 pub fn write(s: &System, p: &Scheduler, now: Ticks) -> Written
-    ensures bytes_value { result.items ≡ file (figures_of s.now p.now now) }
-    ensures length_value { (array_vec_len result ≡ length (file (figures_of s.now p.now now))) × (array_vec_len result ≤ 2662) }
+    ensures bytes { result.items ≡ file (figures_of s.now p.now now) }
+    ensures fits { (array_vec_len result ≡ length (file (figures_of s.now p.now now))) × (array_vec_len result ≤ 2662) }
     ensures says { Says (file (figures_of s.now p.now now)) (figures_of s.now p.now now) }
 {
     let n = s.domain_count();

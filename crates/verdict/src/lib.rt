@@ -32,6 +32,7 @@ pub enum Violation {
 // ---- one vCPU
 
 /// The pCPU that a vCPU runs on, as an index that is always in the table.
+// No Option: what stands at 0 is read and stored back as it was, with no test.
 pub fn pcpu_index(v: &VirtualCpu) -> usize
     ensures { result ≡ pcpu_index v.now.state }
 {
@@ -173,8 +174,21 @@ pub fn first_violation(s: &System) -> Option<Violation>
     first_pcpu_violation(s)
 }
 
-// Whether a vCPU is Running and one of its domain's vCPUs.
-fn runs_within(v: &VirtualCpu, vcpu: usize, vcpus_per_domain: usize) -> bool
+/// Whether vCPU dom/vcpu may stand where it does, where `c` stands at its pCPU's index.
+pub fn is_backed(
+    v: &VirtualCpu,
+    c: &PhysicalCpu,
+    pcpu_count: usize,
+    dom: usize,
+    vcpu: usize,
+) -> bool
+    ensures { result ≡ is_none (vcpu_violation_at pcpu_count c.now.occupant dom vcpu v.now.affinity v.now.state) }
+{
+    vcpu_violation(v, c, pcpu_count, dom, vcpu).is_none()
+}
+
+/// Whether a vCPU is Running and one of its domain's vCPUs.
+pub fn runs_within(v: &VirtualCpu, vcpu: usize, vcpus_per_domain: usize) -> bool
     ensures { result ≡ runs_within vcpus_per_domain vcpu v.now.state }
 {
     v.state.is_running() && vcpu < vcpus_per_domain

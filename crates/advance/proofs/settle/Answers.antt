@@ -31,7 +31,7 @@ returns-clause-system c =
     let most : min c.most_moves-most.result 320 ≡ limit c.args.s.now = omega (arith, limit-small s) in
     c.enact.ensures
     ∙ settles s c.args.p.now c.args.now (table (goal.at.returns-clause-system c).Start c.tabulate.ensures) _ _ _ n most c.requires.idle
-    c.settle-count.ensures.result_after
+    c.settle-count.ensures.logged
 
 pub returns-clause-count : goal.returns-clause-count
 returns-clause-count c =
@@ -39,4 +39,4 @@ returns-clause-count c =
     let n : min (c.domain_count-n.result * 8) 128 ≡ slots c.args.s.now = omega arith in
     let most : min c.most_moves-most.result 320 ≡ limit c.args.s.now = omega (arith, limit-small s) in
     count-is s c.args.p.now c.args.now (table (goal.at.returns-clause-count c).Start c.tabulate.ensures) _ _ _ n most c.requires.idle
-    c.settle-count.ensures.value
+    c.settle-count.ensures.count

@@ -54,7 +54,7 @@ returns-then-not-s c =
     let e = c.answered-told.ensures in
     let f = c.number_of-number.ensures in
     let put = c.put_answer_line-past.ensures in
-    let told = line a.s.now bs _ d e f a.out.now c.requires put.out_after put.value in
+    let told = line a.s.now bs _ d e f a.out.now c.requires put.written put.past in
     whole a.s.now bs _ d e f told.0 (placed_as (placed-none _ _) (hidden a.s.now bs _ d e f c.if-not-s.true) refl refl)
 
 pub returns : goal.returns
@@ -65,7 +65,7 @@ returns c =
     let e = c.answered-told.ensures in
     let f = c.number_of-number.ensures in
     let put = c.put_answer_line-past in
-    let told = line a.s.now bs _ d e f a.out.now c.requires put.ensures.out_after put.ensures.value in
+    let told = line a.s.now bs _ d e f a.out.now c.requires put.ensures.written put.ensures.past in
     let shows = c.reads.ensures in
     let reads = placed-within reads_room (omega (arith, c.requires, told.1, put.auto.out)) shows.put shows.end in
     whole a.s.now bs _ d e f told.0 (placed_as reads (shown a.s.now bs _ d e f c.if-not-s.false) refl refl)

@@ -14,4 +14,4 @@ returns-in-Vcpu c =
     let put = c.append.ensures in
     rw c.in-Vcpu.is
     (line-placed a.out.now (pcpu_line a.pcpu d v) a.at pcpu_room _ (c.as_slice.ensures.value ∙ c.pcpu_line-line.ensures)
-    (pcpu-line-short a.pcpu d v) c.requires put.out_after put.value).0
+    (pcpu-line-short a.pcpu d v) c.requires put.written put.past).0

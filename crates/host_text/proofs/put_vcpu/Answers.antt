@@ -15,4 +15,4 @@ returns c =
     let text = rw (c.state_number.ensures, c.pcpu_number.ensures, c.clock_number.ensures) at c.numbers_line-line.ensures in
     rw (lt-ltb (a.i % 8) a.k c.if-k-i.false)
     (line-placed a.out.now (numbers_line numbers) a.at vcpu_room _ (c.as_slice.ensures.value ∙ text) (numbers-line-short numbers)
-    c.requires put.out_after put.value).0
+    c.requires put.written put.past).0

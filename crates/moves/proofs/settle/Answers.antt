@@ -24,8 +24,8 @@ loop-left-preserved-in-Preempt c =
 pub loop-left-preserved : goal.loop-left-preserved
 loop-left-preserved c = rests c.loop-left.invariant _ _ c.loop-left-test.true c.in-Rest.ensures.next
 
-pub returns-clause-value : goal.returns-clause-value
-returns-clause-value c = rw (← c.min-left.ensures) (ends c.loop-left.invariant (omega (arith, c.loop-left-test.false)) (omega arith)).many
+pub returns-clause-count : goal.returns-clause-count
+returns-clause-count c = rw (← c.min-left.ensures) (ends c.loop-left.invariant (omega (arith, c.loop-left-test.false)) (omega arith)).many
 
-pub returns-clause-result_after : goal.returns-clause-result_after
-returns-clause-result_after c = rw (← c.min-left.ensures) (ends c.loop-left.invariant (omega (arith, c.loop-left-test.false)) (omega arith)).each
+pub returns-clause-logged : goal.returns-clause-logged
+returns-clause-logged c = rw (← c.min-left.ensures) (ends c.loop-left.invariant (omega (arith, c.loop-left-test.false)) (omega arith)).each

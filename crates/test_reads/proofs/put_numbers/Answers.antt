@@ -14,5 +14,5 @@ returns c =
     let put = c.append.ensures in
     let room = length ns * 21 + 1 in
     let fits = c.requires.fits in
-    let there = line-placed a.out.now (numbers_line ns) a.at room _ line (numbers-line-short ns) fits put.out_after put.value in
+    let there = line-placed a.out.now (numbers_line ns) a.at room _ line (numbers-line-short ns) fits put.written put.past in
     record { placed = there.0; within = there.1 }

@@ -15,7 +15,7 @@ returns-then-out-lt-ANSWER_ROOM c =
       | then-out-lt-ANSWER_ROOM-via-else-out-lt-ANSWER_ROOM+then-out-at w ↦ omega arith
     ] in
     let none = crowded answer_room a.out.now (answer_line a.number a.answer a.moves) a.at crowd in
-    record { out_after = none.0; value = none.1 }
+    record { written = none.0; past = none.1 }
 
 pub returns : goal.returns
 unfolding answer_line answer_put answer_end
@@ -24,4 +24,4 @@ returns c =
     let numbered = placed-then inside c.put_number-a.ensures.placed c.put_field-b.ensures.placed in
     let told = placed-then inside (placed-then inside numbered c.put_field-c.ensures.placed) c.put_byte.ensures in
     let there = put-within answer_room (omega arith) told in
-    record { out_after = there.0; value = there.1 }
+    record { written = there.0; past = there.1 }

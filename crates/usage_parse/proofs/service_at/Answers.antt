@@ -41,23 +41,23 @@ words-held a b c d u v w x =
 none : (body : List ℕ) (v : ℕ) → length body / 20 ≤ v → 0 ≡ service_at body v
 none body v h = simp (le-ltb _ _ h)
 
-pub returns-then-vcpu_count-vcpu-clause-value : goal.returns-then-vcpu_count-vcpu-clause-value
+pub returns-then-vcpu_count-vcpu-clause-held : goal.returns-then-vcpu_count-vcpu-clause-held
 unfolding limbs held
-returns-then-vcpu_count-vcpu-clause-value c = ap held (none c.args.body.now c.args.vcpu (omega arith))
+returns-then-vcpu_count-vcpu-clause-held c = ap held (none c.args.body.now c.args.vcpu (omega arith))
 
-pub returns-then-vcpu_count-vcpu-clause-result_value : goal.returns-then-vcpu_count-vcpu-clause-result_value
+pub returns-then-vcpu_count-vcpu-clause-exact : goal.returns-then-vcpu_count-vcpu-clause-exact
 unfolding value
-returns-then-vcpu_count-vcpu-clause-result_value c = none c.args.body.now c.args.vcpu (omega arith)
+returns-then-vcpu_count-vcpu-clause-exact c = none c.args.body.now c.args.vcpu (omega arith)
 
-pub returns-clause-result_value : goal.returns-clause-result_value
+pub returns-clause-exact : goal.returns-clause-exact
 unfolding value
-returns-clause-result_value c =
+returns-clause-exact c =
     let there : c.args.vcpu < length c.args.body.now / 20 = omega arith in
     simp (lt-ltb _ _ there)
     (omega (arith, four-words c.args.body.now (c.args.vcpu * 20 + 4), c.read_at.ensures, c.read_at-2.ensures, c.read_at-3.ensures, c.read_at-4.ensures))
 
-pub returns-clause-value : goal.returns-clause-value
-returns-clause-value c =
+pub returns-clause-held : goal.returns-clause-held
+returns-clause-held c =
     let worth : value (c.read_at.result ∷ c.read_at-2.result ∷ c.read_at-3.result ∷ c.read_at-4.result ∷ []) ≡ service_at c.args.body.now c.args.vcpu =
-    returns-clause-result_value c in
+    returns-clause-exact c in
     words-held _ _ _ _ c.read_at.type_inv c.read_at-2.type_inv c.read_at-3.type_inv c.read_at-4.type_inv ∙ ap held worth

@@ -10,4 +10,4 @@ returns c =
     let e = c.open.ensures in
     let stretch = ap₂ (λ (f : Bor (List ℕ)) (n : Option ℕ). stretch_at f.now n a.domain) e.0 e.1 in
     let place = ap₂ (λ (f : Bor (List ℕ)) (n : Option ℕ). place_at f n a.domain) e.0 e.1 in
-    (c.body.ensures.result_value ∙ stretch ∙ stretch-of a.file.now a.domain, c.body.ensures.ref_ptr_value ∙ place ∙ place-of a.file a.domain)
+    (c.body.ensures.body ∙ stretch ∙ stretch-of a.file.now a.domain, c.body.ensures.place ∙ place ∙ place-of a.file a.domain)

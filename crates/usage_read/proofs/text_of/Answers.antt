@@ -17,8 +17,8 @@ lines-of : (s : List ℕ) (n : ℕ) → file_lines s (count_in s) n ≡ lines_of
 unfolding file_lines lines_of
 lines-of s n = each_same (min n 16) (domain_lines s (count_in s)) _ (λ d. ap (body_lines d) (stretch-of s d))
 
-pub returns-clause-value : goal.returns-clause-value
-returns-clause-value c =
+pub returns-clause-lines : goal.returns-clause-lines
+returns-clause-lines c =
     let a = c.args in
     let text = ap₂ (λ (f : Bor (List ℕ)) (m : Option ℕ). file_lines f.now m a.n) c.open.ensures.0 c.open.ensures.1 in
-    c.text.ensures.value ∙ text ∙ lines-of a.file.now a.n
+    c.text.ensures.lines ∙ text ∙ lines-of a.file.now a.n

@@ -18,15 +18,15 @@ loop-d-preserved c =
     let a = c.args in
     let h = c.loop-d.invariant in
     let put = c.push_body.ensures in
-    let body = ap (λ (b : List ℕ). c.loop-d.text.items ++ body_lines c.loop-d.d b) c.body_at.ensures.result_value in
+    let body = ap (λ (b : List ℕ). c.loop-d.text.items ++ body_lines c.loop-d.d b) c.body_at.ensures.body in
     record {
       items = each-more [] (domain_lines a.file.now a.count) c.loop-d.d h.items (put.items ∙ body);
       short = omega (arith, h.short, put.upper_bound);
     }
 
-pub returns-clause-value : goal.returns-clause-value
+pub returns-clause-lines : goal.returns-clause-lines
 unfolding file_lines
-returns-clause-value c =
+returns-clause-lines c =
     let a = c.args in
     let all : c.loop-d.d ≡ min a.n 16 = omega (arith, c.min-d-end.ensures) in
     c.loop-d.invariant.items ∙ ap (λ (n : ℕ). each n (domain_lines a.file.now a.count)) all

@@ -18,7 +18,7 @@ unfolding vcpu_line
 returns-clause-items g c =
     let a = c.args in
     let line = c.as_slice.ensures.value ∙ c.usage_line-line.ensures
-    ∙ ap₂ (λ w s. usage_line a.domain a.v w s) c.weight_at-weight.ensures c.service_at.ensures.result_value in
+    ∙ ap₂ (λ w s. usage_line a.domain a.v w s) c.weight_at-weight.ensures c.service_at.ensures.exact in
     rw c.unwrap.ensures at c.try_extend_from_slice.ensures.ok ∙ ap (λ (l : List ℕ). a.out.now.items ++ l) line
 
 pub returns-clause-upper_bound : goal.returns-clause-upper_bound

@@ -67,16 +67,16 @@ loop-i-preserved c =
           }
     ]
 
-pub returns-clause-bytes_value : goal.returns-clause-bytes_value
+pub returns-clause-bytes : goal.returns-clause-bytes
 unfolding figures_of
-returns-clause-bytes_value c =
+returns-clause-bytes c =
     let a = c.args in
     let h = c.loop-i.invariant in
     file-stored (figures_of a.s.now a.p.now a.now) c.loop-i.i h.stored (omega arith) (omega (arith, c.domain_count-n.ensures))
 
-pub returns-clause-length_value : goal.returns-clause-length_value
+pub returns-clause-fits : goal.returns-clause-fits
 unfolding figures_of
-returns-clause-length_value c =
+returns-clause-fits c =
     let a = c.args in
     let f = figures_of a.s.now a.p.now a.now in
     let h = c.loop-i.invariant in

@@ -17,7 +17,7 @@ returns-then-self c =
     let next = next-is a.self.now a.bytes.now c.plan_of-plan.ensures _ told.carried c.built_after-self.ensures in
     let line =
     line-put a.self.now a.bytes.now c.plan_of-plan.ensures _ told.carried c.number_of-number.ensures (omega (arith, room))
-    put.ensures.out_after put.ensures.value in
+    put.ensures.written put.ensures.past in
     let within : a.at ≤ length a.out.now = omega (arith, room) in
     let state = placed-within host_room (omega (arith, room, line.1, put.auto.out)) c.put_host.ensures.put c.put_host.ensures.end in
     record {
@@ -36,7 +36,7 @@ returns-else-states c =
     let next = next-is a.self.now a.bytes.now c.plan_of-plan.ensures _ told.carried c.built_after-self.ensures in
     let line =
     line-put a.self.now a.bytes.now c.plan_of-plan.ensures _ told.carried c.number_of-number.ensures
-    (omega (arith, c.requires.fits, least)) put.out_after put.value in
+    (omega (arith, c.requires.fits, least)) put.written put.past in
     let hidden : (a.states && c.built_after-self.result) ≡ false =
     elim c.else-states.branch [
       | else-states-via-then-states+else-self w ↦ rw (w.if-states.true, w.if-self.false) refl

@@ -1,0 +1,8 @@
+-- `big_endian::double` meets its contract. Assumes nothing.
+use Rattle.std.proofs.Common.{rules}
+use Rattle.big_endian.specs.Numbers.{number}
+use Rattle.big_endian.proofs.double.Goals as goal
+
+pub returns : goal.returns
+unfolding number
+returns c = search rules
