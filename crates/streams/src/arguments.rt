@@ -1,9 +1,13 @@
 //! The arguments of a program.
 
+ghost use Rattle.std.specs.Prelude.{◌≤◌};
+
 use std::env::{Env, FillError};
 
 /// How many there are before `most`, the program's own name among them.
-pub fn count(rt: &HostRuntime, most: usize) -> usize {
+pub fn count(rt: &HostRuntime, most: usize) -> usize
+    ensures { result ≤ most }
+{
     let mut word = [0u8; 1];
     for i in 0..most {
         if matches!(rt.arg(i, &mut word), Err(FillError::NotPresent)) {
