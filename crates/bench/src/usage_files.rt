@@ -31,11 +31,7 @@ pub fn written(rounds: u64) -> u64 {
     let mut total: u64 = 0;
     for k in 0..rounds {
         let file = usage_write::write(&s, &p, k);
-        if let [.., last] = file.as_slice()
-            && let Some(of_first) = file.get(121)
-        {
-            total = total.wrapping_add(*of_first as u64 + *last as u64);
-        }
+        total = total.wrapping_add(file.bytes[121] as u64 + file.bytes[2661] as u64);
     }
     total
 }
@@ -45,11 +41,7 @@ pub fn opened(rounds: u64) -> u64 {
     let Ok(p) = Scheduler::new(16, 8, 10) else {
         return 0;
     };
-    let file = usage_write::write(&full_system(), &p, 0);
-    let mut bytes = [0u8; usage_write::ROOM];
-    for (byte, of_file) in bytes.iter_mut().zip(file.as_slice()) {
-        *byte = *of_file;
-    }
+    let mut bytes = usage_write::write(&full_system(), &p, 0).bytes;
     let mut total: u64 = 0;
     for k in 0..rounds {
         bytes[2645] = (k % 0x100) as u8;

@@ -1,1 +1,2 @@
 mod Std
+mod Ends

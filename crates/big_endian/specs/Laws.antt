@@ -21,7 +21,7 @@ unfolding number
 number-one bs at = rw (add-zero at) (omega arith)
 
 -- bytes that agree say the same number
-number_same : (s t : List ℕ) (at at' n : ℕ) → ((i : ℕ) → i < n → get_or s (at + i) 0 ≡ get_or t (at' + i) 0)
+pub number_same : (s t : List ℕ) (at at' n : ℕ) → ((i : ℕ) → i < n → get_or s (at + i) 0 ≡ get_or t (at' + i) 0)
     → number s at n ≡ number t at' n
 unfolding number
 number_same s t at at' zero h = refl

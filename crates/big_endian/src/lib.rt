@@ -2,7 +2,7 @@
 
 #![tactic(auto)]
 
-ghost use Rattle.std.specs.Prelude.{◌≡◌, ◌+◌, ◌≤◌, [], ◌∷◌, length, ℕ};
+ghost use Rattle.std.specs.Prelude.{◌≡◌, ◌≤◌, [], ◌∷◌, ℕ};
 ghost use Rattle.std.proofs.lemmas.List.Edits.{sets};
 ghost use Rattle.big_endian.specs.Numbers.{bytes, number};
 
@@ -12,15 +12,13 @@ pub trait BigEndian: Sized {
 
     ghost value: { Self → ℕ };
 
-    /// The number that the bytes from that index on say.
+    /// The number that the bytes from that index on say; past the end there are zeros.
     // Cut to its width: a length that is known leaves no test.
     fn read_at(bytes: &[u8], at: usize) -> Self
-        requires { at + width ≤ length bytes.now }
         ensures { value result ≡ number bytes.now at width };
 
-    /// Writes the bytes of the number from that index on.
+    /// Writes the bytes of the number from that index on; past the end nothing is written.
     fn put_at(self, out: &mut [u8], at: usize)
-        requires { at + width ≤ length out.old }
         ensures { out.new ≡ sets out.old at (bytes width (value self)) };
 }
 
@@ -30,11 +28,20 @@ impl BigEndian for u16 {
     ghost value = { λ n. n };
 
     fn read_at(bytes: &[u8], at: usize) -> u16 {
-        u16::from_be_bytes(*bytes[at..at + 2].first_chunk().unwrap())
+        if at.saturating_add(2) <= bytes.len() {
+            u16::from_be_bytes(*bytes[at..at + 2].first_chunk().unwrap())
+        } else {
+            u16::from_be_bytes(*over_the_end(bytes, at).first_chunk().unwrap())
+        }
     }
 
     fn put_at(self, out: &mut [u8], at: usize) {
-        out[at..at + 2].copy_from_slice(&self.to_be_bytes());
+        let bytes: [u8; 2] = self.to_be_bytes();
+        if at.saturating_add(2) <= out.len() {
+            out[at..at + 2].copy_from_slice(&bytes);
+        } else {
+            put_what_fits(out, at, &bytes);
+        }
     }
 }
 
@@ -44,11 +51,20 @@ impl BigEndian for u32 {
     ghost value = { λ n. n };
 
     fn read_at(bytes: &[u8], at: usize) -> u32 {
-        u32::from_be_bytes(*bytes[at..at + 4].first_chunk().unwrap())
+        if at.saturating_add(4) <= bytes.len() {
+            u32::from_be_bytes(*bytes[at..at + 4].first_chunk().unwrap())
+        } else {
+            u32::from_be_bytes(*over_the_end(bytes, at).first_chunk().unwrap())
+        }
     }
 
     fn put_at(self, out: &mut [u8], at: usize) {
-        out[at..at + 4].copy_from_slice(&self.to_be_bytes());
+        let bytes: [u8; 4] = self.to_be_bytes();
+        if at.saturating_add(4) <= out.len() {
+            out[at..at + 4].copy_from_slice(&bytes);
+        } else {
+            put_what_fits(out, at, &bytes);
+        }
     }
 }
 
@@ -58,12 +74,44 @@ impl BigEndian for u64 {
     ghost value = { λ n. n };
 
     fn read_at(bytes: &[u8], at: usize) -> u64 {
-        u64::from_be_bytes(*bytes[at..at + 8].first_chunk().unwrap())
+        if at.saturating_add(8) <= bytes.len() {
+            u64::from_be_bytes(*bytes[at..at + 8].first_chunk().unwrap())
+        } else {
+            u64::from_be_bytes(*over_the_end(bytes, at).first_chunk().unwrap())
+        }
     }
 
     fn put_at(self, out: &mut [u8], at: usize) {
-        out[at..at + 8].copy_from_slice(&self.to_be_bytes());
+        let bytes: [u8; 8] = self.to_be_bytes();
+        if at.saturating_add(8) <= out.len() {
+            out[at..at + 8].copy_from_slice(&bytes);
+        } else {
+            put_what_fits(out, at, &bytes);
+        }
     }
+}
+
+// ---- where the end comes first
+
+// Writes those of the bytes that there is room for.
+#[cold]
+fn put_what_fits(out: &mut [u8], at: usize, bytes: &[u8])
+    ensures { out.new ≡ sets out.old at bytes.now }
+{
+    if at < out.len() {
+        let fit = bytes.len().min(out.len() - at);
+        out[at..at + fit].copy_from_slice(&bytes[..fit]);
+    }
+}
+
+// The eight bytes from that index on, zeros past the end.
+#[cold]
+fn over_the_end(bytes: &[u8], at: usize) -> [u8; 8]
+    ensures { (n : ℕ) → n ≤ 8 → number result 0 n ≡ number bytes.now at n }
+{
+    let mut there = [0; 8];
+    put_what_fits(&mut there, 0, &bytes[at.min(bytes.len())..]);
+    there
 }
 
 // ---- the same of bytes one by one: total, as they were promised

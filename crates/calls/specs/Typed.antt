@@ -1,4 +1,4 @@
--- The numbers that a call can carry: every call that is handed to `host::step` fits its types.
+-- The numbers that a call can carry: every call that is handed to `Host::step` fits its types.
 use Rattle.std.specs.Prelude.{◌^◌, ◌<◌}
 use Rattle.calls.specs.declared.Request.{Request}
 use Rattle.calls.specs.declared.Call.{Call}

@@ -85,6 +85,7 @@ fn admitted(v: VirtualCpu) -> Result<Change, Answer>
 }
 
 // Who holds the pCPU is tested later, by `stored`: an off-mask dispatch has one reason, whoever is there.
+#[tactic(auto, unfolding(crate::specs::Records::dispatched))]
 fn ran(v: VirtualCpu, pcpu: Pcpu, now: Ticks) -> Result<Change, Answer>
     ensures { result ≡ ran v pcpu now v.state }
 {

@@ -66,7 +66,7 @@ fn put_vcpu(out: &mut [u8], at: usize, i: usize, k: usize, v: &VirtualCpu, weigh
         weight as u64,
         v.last as u64,
     ]);
-    text::append(out, at, line.as_slice())
+    text::append(out, at, &line.bytes[..line.length])
 }
 
 fn put_pcpu(out: &mut [u8], at: usize, pcpu: usize, occupant: Occupant) -> usize
@@ -77,7 +77,7 @@ fn put_pcpu(out: &mut [u8], at: usize, pcpu: usize, occupant: Occupant) -> usize
         Occupant::Idle => at,
         Occupant::Vcpu { dom, vcpu } => {
             let line = text::pcpu_line(pcpu as u64, dom as u64, vcpu as u64);
-            text::append(out, at, line.as_slice())
+            text::append(out, at, &line.bytes[..line.length])
         }
     }
 }

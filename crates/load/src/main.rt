@@ -6,7 +6,7 @@
 
 use load_script::Load;
 use records::Shape;
-use streams::arguments;
+use streams::arguments::{self, WORD_ROOM};
 use system::Answer;
 
 // How many numbers are asked for.
@@ -68,8 +68,9 @@ fn refused(rt: &HostRuntime, refusal: Refusal) {
 
 fn numbers(rt: &HostRuntime) -> Result<[u64; NUMBERS], Refusal> {
     let mut numbers = [0u64; NUMBERS];
+    let mut word = [0u8; WORD_ROOM];
     for i in 0..NUMBERS {
-        numbers[i] = arguments::number(rt, i + 1).ok_or(Refusal::NotANumber(i + 1))?;
+        numbers[i] = arguments::number(rt, i + 1, &mut word).ok_or(Refusal::NotANumber(i + 1))?;
     }
     Ok(numbers)
 }

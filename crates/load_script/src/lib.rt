@@ -2,7 +2,7 @@
 
 #![tactic(auto)]
 
-ghost use Rattle.std.specs.Prelude.{◌≡◌, ◌<◌};
+ghost use Rattle.std.specs.Prelude.{◌≡◌, ◌<◌, IfSome, Some};
 ghost use Rattle.load_script.specs.Loads.{load_outcome, refused_with, opened};
 
 use generator::Generator;
@@ -144,7 +144,8 @@ impl Load {
 impl Iterator for Load {
     type Item = Record;
 
-    ghost use Rattle.std.specs.Iterator.{at_most};
+    ghost use Rattle.std.specs.Iterator.{at_most, UpTo};
+    ghost use Rattle.std.specs.Iterator.SizeHint.{IsWithinCount};
     ghost use Rattle.load_script.specs.Loads.{size, handed};
 
     ghost next_gives = { λ l r m. (r ≡ (handed l).next) × (m ≡ (handed l).load) };
@@ -158,7 +159,11 @@ impl Iterator for Load {
         Some(self.hand_out())
     }
 
-    fn size_hint(&self) -> (usize, Option<usize>) {
+    fn size_hint(&self) -> (usize, Option<usize>)
+        ensures lower { IsWithinCount result.0 (at_most (size self.now)) }
+        ensures upper { IfSome result.1 (UpTo (at_most (size self.now))) }
+        ensures value { result ≡ (size self.now, Some (size self.now)) }
+    {
         let left = self.records_left();
         (left, Some(left))
     }

@@ -20,6 +20,28 @@ and_after rest slice t idle (Run i p) = Run i p ∷ rest (dispatched_in slice t 
 and_after rest slice t idle (Preempt i p) = Preempt i (p % 64) ∷ rest (left_in t i) (with_pcpu idle (p % 64))
 and_after rest slice t idle Rest = []
 
+-- ---- one move
+
+-- the move that is made of a decision: it names a pCPU of the word
+abbrev pub made : Choice → Choice
+made (Run i p) = Run i p
+made (Preempt i p) = Preempt i (p % 64)
+made Rest = Rest
+
+-- what the move leaves of the table
+abbrev pub table_after : ℕ → List Row → Choice → List Row
+table_after slice t (Run i p) = dispatched_in slice t i p
+table_after slice t (Preempt i p) = left_in t i
+table_after slice t Rest = t
+
+-- what it leaves of the set of idle pCPUs
+abbrev pub idle_after : ℕ → Choice → ℕ
+idle_after idle (Run i p) = idle - pcpu_bit p
+idle_after idle (Preempt i p) = with_pcpu idle p
+idle_after idle Rest = idle
+
+-- ---- settling
+
 -- the moves over the first n slots of the table, at most k
 unfoldable pub settled : (slice n k : ℕ) → List Row → ℕ → List Choice
 settled slice n zero t idle = []

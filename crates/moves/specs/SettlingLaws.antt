@@ -1,7 +1,7 @@
 -- Laws of settling: what comes first and what after it, by the decision; and no more moves than are allowed. Assumes nothing.
-use Rattle.std.specs.Prelude.{ℕ, zero, suc, ◌-◌, ◌%◌, ◌≤◌, ◌≡◌, List, [], ◌∷◌, length}
+use Rattle.std.specs.Prelude.{ℕ, zero, suc, ◌-◌, ◌%◌, ◌≤◌, ◌≡◌, refl, List, [], ◌∷◌, length}
 use Rattle.std.proofs.Common.{zero-le, suc-le-suc}
-use Rattle.std.proofs.Math.Path.{ap}
+use Rattle.std.proofs.Math.Path.{ap, ◌∙◌}
 use Rattle.masks.specs.Masks.{pcpu_bit}
 use Rattle.moves.specs.declared.Choice.{Choice}
 use Rattle.moves.specs.declared.Row.{Row}
@@ -9,7 +9,7 @@ use Rattle.moves.specs.declared.Choice.TheVariants.{Run, Preempt, Rest}
 use Rattle.moves.specs.Decide.{decide}
 use Rattle.moves.specs.Table.{tabled}
 use Rattle.moves.specs.TableWrites.{dispatched_in, left_in}
-use Rattle.moves.specs.Settling.{with_pcpu, and_after, settled}
+use Rattle.moves.specs.Settling.{with_pcpu, with_rest, made, table_after, idle_after, and_after, settled}
 
 module _ (slice n k : ℕ) (t : List Row) (idle : ℕ) where
   by : (c : Choice) → decide (tabled t idle) n ≡ c
@@ -27,6 +27,20 @@ module _ (slice n k : ℕ) (t : List Row) (idle : ℕ) where
 
   pub settled-rest : decide (tabled t idle) n ≡ Rest → settled slice n (suc k) t idle ≡ []
   settled-rest e = by Rest e
+
+-- the move that is made, and what comes after it of what it leaves
+pub settled-made : (slice n k : ℕ) (t : List Row) (idle : ℕ) (c : Choice) → made (decide (tabled t idle) n) ≡ c
+    → settled slice n (suc k) t idle ≡ with_rest c (settled slice n k (table_after slice t c) (idle_after idle c))
+unfolding settled
+settled-made slice n k t idle c e = go (decide (tabled t idle) n) ∙ ap after e
+  where
+    after : Choice → List Choice
+    after d = with_rest d (settled slice n k (table_after slice t d) (idle_after idle d))
+
+    go : (d : Choice) → and_after (λ u rest. settled slice n k u rest) slice t idle d ≡ after (made d)
+    go (Run i p) = refl
+    go (Preempt i p) = refl
+    go Rest = refl
 
 pub settled-short : (slice n k : ℕ) (t : List Row) (idle : ℕ) → length (settled slice n k t idle) ≤ k
 unfolding settled

@@ -1,5 +1,5 @@
 -- Settling over tables worked out by hand from the requirements, what a move leaves of a row, and the log. Assumes nothing.
-use Rattle.std.specs.Prelude.{ℕ, ◌+◌, ◌^◌, refl, List, [], ◌∷◌, ◌++◌, replicate}
+use Rattle.std.specs.Prelude.{ℕ, ◌+◌, ◌^◌, refl, List, [], ◌∷◌, ◌++◌, map, replicate}
 use Rattle.rows.specs.Rows.{Row, rows, AllDue}
 use Rattle.masks.specs.Masks.{first}
 use Rattle.service.specs.Service.{value, more_deserving}
@@ -13,7 +13,7 @@ use Rattle.moves.specs.declared.Row.{Row as Slot}
 use Rattle.moves.specs.Decide.{first_idle_pcpu_for, placement, placeable, beaten, loses, chosen, victim, decide}
 use Rattle.moves.specs.Table.{row_at, tabled}
 use Rattle.moves.specs.TableWrites.{dispatched_in, left_in}
-use Rattle.moves.specs.Settling.{with_pcpu, settled, logged_first}
+use Rattle.moves.specs.Settling.{with_pcpu, made, table_after, idle_after, settled, logged_first}
 
 -- 1 for a dispatch, 2 for a preemption, then the slot and the pCPU
 abbrev read : List Choice → List ℕ
@@ -133,6 +133,14 @@ stores =
     ∷ rows (numbers (left_in filled 2) 0) (numbers filled 0)
     -- a set that has the pCPU stays
     ∷ rows (with_pcpu 5 2 ∷ with_pcpu 5 1 ∷ with_pcpu 1 63 ∷ []) (5 ∷ 7 ∷ (2 ^ 63 + 1) ∷ [])
+    -- of a decision to rest nothing is left but what was there; the set loses the pCPU of a dispatch, and gains that of a preemption
+    ∷ rows (numbers (table_after 0 filled Rest) 2) (numbers filled 2)
+    ∷ rows (numbers (table_after 0 filled (Run 2 63)) 2) (65 ∷ 300 ∷ (2 ^ 63 + 5) ∷ 63 ∷ 1 ∷ 2 ∷ 3 ∷ 4 ∷ 1 ∷ 2 ∷ 3 ∷ 4 ∷ [])
+    ∷ rows (numbers (table_after 0 filled (Preempt 2 63)) 2)
+    (1 ∷ 300 ∷ (2 ^ 63 + 5) ∷ 8 ∷ 9 ∷ 10 ∷ 11 ∷ 12 ∷ 9 ∷ 10 ∷ 11 ∷ 12 ∷ [])
+    ∷ rows (map (idle_after 5) (Rest ∷ Run 2 2 ∷ Preempt 2 2 ∷ Preempt 2 1 ∷ [])) (5 ∷ 1 ∷ 5 ∷ 7 ∷ [])
+    -- a preemption names a pCPU of the word
+    ∷ rows (read (map made (Run 2 63 ∷ Preempt 2 63 ∷ Preempt 2 64 ∷ Rest ∷ []))) (1 ∷ 2 ∷ 63 ∷ 2 ∷ 2 ∷ 63 ∷ 2 ∷ 2 ∷ 0 ∷ 0 ∷ [])
     -- the log, as far as it is filled; an entry that none is logged as is read as one that is
     ∷ rows (read (logged_first (Onto 0 0 ∷ Off 0 0 ∷ Onto 63 127 ∷ Off 63 127 ∷ Off 255 65535 ∷ Onto 1 0 ∷ []) 5))
     (1 ∷ 0 ∷ 0 ∷ 2 ∷ 0 ∷ 0 ∷ 1 ∷ 127 ∷ 63 ∷ 2 ∷ 127 ∷ 63 ∷ 2 ∷ 127 ∷ 63 ∷ [])

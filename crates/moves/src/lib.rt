@@ -8,7 +8,7 @@ ghost use Rattle.masks.specs.Masks.{permits, first};
 ghost use Rattle.moves.specs.Decide.{beaten, decide};
 ghost use Rattle.moves.specs.Table.{is_waiting, tabled};
 ghost use Rattle.moves.specs.TableWrites.{dispatched_row, left_row};
-ghost use Rattle.moves.specs.Settling.{InRange, choice_of, with_pcpu, with_rest, settled, logged_first};
+ghost use Rattle.moves.specs.Settling.{InRange, choice_of, with_pcpu, with_rest, made, table_after, idle_after, settled, logged_first};
 ghost use Rattle.moves.specs.Leads.{ahead, goes_before, yields_before, StandsExpired, LeadsChosen, LeadsVictim};
 
 use service::Service;
@@ -301,6 +301,9 @@ fn with_pcpu(idle: u64, p: u32) -> u64
 /// The next move of a settling over the first `n` slots, at most 128: decides, and does what is decided to the table and to the set
 /// of idle pCPUs.
 pub fn make_move(table: &mut Table, n: usize, idle: &mut u64, slice: u64) -> Choice
+    ensures made { result ≡ made (decide (tabled table.old idle.old) (min n 128)) }
+    ensures table { table.new ≡ table_after slice table.old result }
+    ensures idle { idle.new ≡ idle_after idle.old result }
     ensures within { InRange result }
     ensures next { (k : ℕ) → settled slice (min n 128) (k + 1) table.old idle.old ≡ with_rest result (settled slice (min n 128) k table.new idle.new) }
 {

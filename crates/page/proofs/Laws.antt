@@ -16,14 +16,15 @@ pub use Rattle.page.proofs.Policy.{set-weight-is, set-wake-boost-is}
 -- lines, records and scripts
 pub use Rattle.page.proofs.NumberLaws.{number_in_is}
 pub use Rattle.page.proofs.LineLaws.{put-answer-is, past-answer-is}
-pub use Rattle.page.proofs.LineLaws.{numbers-line-is, pcpu-line-is, usage-line-of}
+pub use Rattle.page.proofs.LineLaws.{numbers-line-is, pcpu-line-is, usage-line-of, numbers-line-made, pcpu-line-made, usage-line-made}
 pub use Rattle.page.proofs.ScriptLaws.{record_at-is, put_record_is, plan-is, begun-is, replayed-is, output-is, example-is}
 -- usage files, and what 2.3 says of them
 pub use Rattle.page.proofs.UsageFileLaws.{file-is, written_is}
 pub use Rattle.page.proofs.UsageAccepted.{count-is}
 pub use Rattle.page.proofs.UsageReadLaws.{told_is, body_is, place_is, told-by-is, body-by-is, place-by-is}
-pub use Rattle.page.proofs.UsageTextLaws.{weight-of-body-is, service-of-body-is, body-text-is}
+pub use Rattle.page.proofs.UsageTextLaws.{weight-of-body-is, service-of-body-is, body-lines_are, body-text-is}
 pub use Rattle.page.proofs.UsageTextLaws.{weight-of-is, service-of-is, domain-text-is, file-text-is, text-by-is}
+pub use Rattle.page.proofs.UsageTextLaws.{file-text-made, text-by-made}
 pub use Rattle.page.proofs.UsageExact.{written-says, exactly, every-choice, no_two-alike}
 -- loads
 pub use Rattle.page.proofs.DrawLaws.{draw-is, draw_if_is, state_if_is, drawn-is, called_is}

@@ -4,9 +4,10 @@ use mathlib.Core.Bool.{cond}
 use mathlib.Core.List.{List, [], ◌∷◌, ◌++◌, append_assoc}
 use mathlib.Core.Path.{◌≡◌, refl, ◌∙◌, ap, ap₂}
 use lib.Dec.{leb}
-use lib.ListN.{length}
+use lib.ListN.{length, take}
 use Rattle.service.specs.Service.{value}
 use Rattle.text.specs.Lines as lines
+use Rattle.text.specs.Places as places
 use Rattle.text.specs.AnswerPlaces as answers
 use Rattle.page.specs.Policy.{number}
 use Rattle.page.specs.Numbers.{decimal, wide_decimal}
@@ -46,6 +47,18 @@ usage-line-is d v w s =
 -- of a service in limbs
 pub usage-line-of : (d v w : ℕ) (s : List ℕ) → lines.usage_line d v w (value s) ≡ page.usage_line d v w (number s)
 usage-line-of d v w s = usage-line-is d v w (value s) ∙ ap (page.usage_line d v w) (number_is s)
+
+-- what the functions of lines hand back
+pub numbers-line-made : (ns : List ℕ) → places.line_of (lines.numbers_line (take 9 ns))
+    ≡ page.line_of (page.numbers_line (take 9 ns))
+numbers-line-made ns = ap page.line_of (numbers-line-is (take 9 ns))
+
+pub pcpu-line-made : (p d v : ℕ) → places.line_of (lines.pcpu_line p d v) ≡ page.line_of (page.pcpu_line p d v)
+pcpu-line-made p d v = ap page.line_of (pcpu-line-is p d v)
+
+pub usage-line-made : (d v w : ℕ) (s : List ℕ)
+    → places.line_of (lines.usage_line d v w (value s)) ≡ page.line_of (page.usage_line d v w (number s))
+usage-line-made d v w s = ap page.line_of (usage-line-of d v w s)
 
 pub put-answer-is : (out : List ℕ) (at n a m : ℕ) → answers.answer_put out at n a m ≡ page.put_answer out at n a m
 unfolding answers.answer_put

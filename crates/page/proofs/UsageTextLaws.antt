@@ -7,7 +7,7 @@ use mathlib.Core.Path.{◌≡◌, refl, sym, ◌∙◌, ap, ap₂}
 use native.Mathlib.Nat.{add-zero}
 use native.Mathlib.Omega.{arith}
 use lib.Dec.{ltb}
-use lib.ListN.{length, take, drop, length-drop}
+use lib.ListN.{length, take, drop, replicate, length-drop}
 use lib.Seq.{length-take-le}
 use borrow.Author.Tests.{lt-ltb, le-ltb, ltb-true}
 use Rattle.scans.specs.Booleans.{both}
@@ -15,15 +15,16 @@ use Rattle.big_endian.specs.Laws.{number-within}
 use Rattle.usage_layout.specs.Reading as reading
 use Rattle.usage_layout.proofs.Laws.{accepted-parts}
 use Rattle.usage_parse.specs.Domains as domains
+use Rattle.usage_text.specs.declared.BodyText.{BodyText}
 use Rattle.usage_text.specs.BodyText as usage
 use Rattle.usage_text.specs.FileText as files
 use Rattle.page.specs.Page.{times}
 use Rattle.page.specs.Numbers.{parts, field}
-use Rattle.page.specs.Lines.{usage_line}
+use Rattle.page.specs.Lines.{usage_line, put}
 use Rattle.page.specs.UsageFile as page
 use Rattle.page.proofs.NumberLaws.{parts_are, parts_same, field_is}
 use Rattle.page.proofs.LineLaws.{usage-line-is}
-use Rattle.page.proofs.UsageAccepted.{number_at}
+use Rattle.page.proofs.UsageAccepted.{number_at, count-is}
 use Rattle.page.proofs.UsageReadLaws.{has-is, line-is, body_is, body-by-is}
 
 -- ---- of any body
@@ -38,12 +39,18 @@ pub service-of-body-is : (b : List ℕ) (v : ℕ) → domains.service_at b v ≡
 service-of-body-is b v =
     ap (λ (n : ℕ). cond (ltb v (length b / 20)) n 0) (number_at b (v * 20 + 4) (20 * v + 4) 16 (omega arith))
 
-pub body-text-is : (d : ℕ) (b : List ℕ) → usage.body_lines d b ≡ page.body_text d b
+pub body-lines_are : (d : ℕ) (b : List ℕ) → usage.body_lines d b ≡ page.body_text d b
 unfolding usage.body_lines usage.vcpu_line
-body-text-is d b =
+body-lines_are d b =
     parts_are (min (length b / 20) 8) _ _
     (λ v _. usage-line-is d v (domains.weight_at b v) (domains.service_at b v)
     ∙ ap₂ (usage_line d v) (weight-of-body-is b v) (service-of-body-is b v))
+
+pub body-text-is : (d : ℕ) (b : List ℕ) → usage.body_text_of (usage.body_lines d b) ≡ page.body_text_of d b
+body-text-is d b = ap text (body-lines_are d b)
+  where
+    text : List ℕ → BodyText
+    text t = record { bytes = put (replicate 824 0) 0 t; length = length t }
 
 -- ---- of a file's domain
 module _ (s : List ℕ) (d : ℕ) where
@@ -120,7 +127,7 @@ module _ (s : List ℕ) (d : ℕ) where
   pub domain-text-is : usage.body_lines d (domains.stretch_of s d) ≡ page.domain_text s d
   unfolding times
   domain-text-is =
-      body-text-is d (domains.stretch_of s d)
+      body-lines_are d (domains.stretch_of s d)
       ∙ (ap (page.body_text d) (body_is s d)
       ∙ ((λ i. parts (min (length (page.body s d) / 20) 8) (λ v. usage_line d v (weight-there v i) (service-there v i)))
       ∙ go (page.has s d) refl))
@@ -145,4 +152,13 @@ pub text-by-is : (s : List ℕ) (count : Option ℕ) (n : ℕ) → files.file_li
 unfolding files.file_lines
 text-by-is s count n =
     parts_are (min n 16) _ _
-    (λ d _. body-text-is d (domains.stretch_at s count d) ∙ ap (page.body_text d) (body-by-is s count d))
+    (λ d _. body-lines_are d (domains.stretch_at s count d) ∙ ap (page.body_text d) (body-by-is s count d))
+
+-- the same with the count and zeros past them
+pub file-text-made : (s : List ℕ) (n : ℕ) → files.file_text_of (domains.count_in s) (files.lines_of s n)
+    ≡ page.file_text_of (page.count s) (page.file_text s n)
+file-text-made s n = ap₂ page.file_text_of (count-is s) (file-text-is s n)
+
+pub text-by-made : (s : List ℕ) (count : Option ℕ) (n : ℕ) → files.file_text_of count (files.file_lines s count n)
+    ≡ page.file_text_of count (page.text_by s count n)
+text-by-made s count n = ap (page.file_text_of count) (text-by-is s count n)

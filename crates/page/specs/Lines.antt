@@ -1,5 +1,6 @@
 -- Lines of numbers, and text put into a stretch of bytes.
-use Rattle.std.specs.Prelude.{ℕ, ◌+◌, Bool, cond, List, [], ◌∷◌, ◌++◌, leb, length, take, drop}
+use Rattle.std.specs.Prelude.{ℕ, ◌+◌, Bool, cond, List, [], ◌∷◌, ◌++◌, leb, length, take, drop, replicate}
+use Rattle.text.specs.declared.Line.{Line}
 use Rattle.page.specs.Numbers.{decimal, wide_decimal}
 
 -- ---- Lines: 32 is a space, 112 a p, 10 ends a line
@@ -26,6 +27,10 @@ usage_line d v weight service = decimal d ++ spaced v ++ spaced weight ++ (32 �
 -- ---- Text put in place of what stands at index `at`
 abbrev pub put : List ℕ → ℕ → List ℕ → List ℕ
 put out at t = take at out ++ (t ++ drop (at + length t) out)
+
+-- a line of that text, zeros past it
+abbrev pub line_of : List ℕ → Line
+line_of t = record { bytes = put (replicate 192 0) 0 t; length = length t }
 
 -- a whole line is put where it fits, and the index past it
 abbrev pub fits : List ℕ → ℕ → List ℕ → Bool

@@ -2,11 +2,13 @@
 use Rattle.std.specs.Prelude.{ℕ, ◌+◌, ◌-◌, ◌*◌, ◌/◌, min, Bool, false, cond, ◌&&◌, List, [], ◌∷◌, ◌++◌, ltb, leb, eqb, length, get_or, take, drop, replicate, Option, None, Some}
 use Rattle.system.specs.declared.System.{System}
 use Rattle.policy.specs.declared.Scheduler.{Scheduler}
+use Rattle.usage_text.specs.declared.BodyText.{BodyText}
+use Rattle.usage_text.specs.declared.FileText.{FileText}
 use Rattle.page.specs.Host.{domains, vcpus, vcpu}
 use Rattle.page.specs.Policy.{weight}
 use Rattle.page.specs.Standing.{in_flight}
 use Rattle.page.specs.Numbers.{parts, all, bytes, field}
-use Rattle.page.specs.Lines.{usage_line}
+use Rattle.page.specs.Lines.{usage_line, put}
 
 -- ---- The layout of n domains of k vCPUs
 abbrev pub usge : List ℕ
@@ -31,7 +33,7 @@ ran s now d v = let x = vcpu s d v in x.runtime + in_flight x.state (now - x.dis
 unfoldable pub file : System → Scheduler → ℕ → List ℕ
 file s π now = layout (domains s) (vcpus s) (weight π) (ran s now)
 
--- in the room of the largest, with zeros past it
+-- the array that is handed back: zero past the file's end
 abbrev pub written : System → Scheduler → ℕ → List ℕ
 written s π now = file s π now ++ replicate (2662 - length (file s π now)) 0
 
@@ -131,6 +133,14 @@ service_of_body b v = cond (ltb v (vcpus_of_body b)) (field b (20 * v + 4) 16) 0
 abbrev pub body_text : ℕ → List ℕ → List ℕ
 body_text d b = parts (min (vcpus_of_body b) 8) (λ v. usage_line d v (weight_of_body b v) (service_of_body b v))
 
+-- the same with zeros past them
+abbrev pub body_text_of : ℕ → List ℕ → BodyText
+body_text_of d b = record { bytes = put (replicate 824 0) 0 (body_text d b); length = length (body_text d b) }
+
 -- the lines of the first n domains, of sixteen at most
 abbrev pub text_by : List ℕ → Option ℕ → ℕ → List ℕ
 text_by f count n = parts (min n 16) (λ d. body_text d (body_by f count d))
+
+-- lines of a file with that count, zeros past them
+abbrev pub file_text_of : Option ℕ → List ℕ → FileText
+file_text_of count t = record { bytes = put (replicate 13184 0) 0 t; length = length t; count = count }

@@ -5,7 +5,7 @@
 ghost use Rattle.std.specs.Prelude.{◌≡◌, take};
 ghost use Rattle.page.specs.Policy.{number};
 ghost use Rattle.page.specs.Numbers.{number_in};
-ghost use Rattle.page.specs.Lines.{numbers_line, pcpu_line, usage_line, append, past, put_answer, past_answer};
+ghost use Rattle.page.specs.Lines.{numbers_line, pcpu_line, usage_line, line_of, append, past, put_answer, past_answer};
 
 use service::Service;
 use text::Line;
@@ -18,19 +18,22 @@ pub fn put_answer_line(out: &mut [u8], at: usize, number: u64, answer: u64, move
 }
 
 pub fn numbers_line(numbers: &[u64]) -> Line
-    ensures { result.items ≡ numbers_line (take 9 numbers.now) }
+    ensures line { result ≡ line_of (numbers_line (take 9 numbers.now)) }
+    ensures text { take result.length result.bytes ≡ numbers_line (take 9 numbers.now) }
 {
     text::numbers_line(numbers)
 }
 
 pub fn pcpu_line(pcpu: u64, dom: u64, vcpu: u64) -> Line
-    ensures { result.items ≡ pcpu_line pcpu dom vcpu }
+    ensures line { result ≡ line_of (pcpu_line pcpu dom vcpu) }
+    ensures text { take result.length result.bytes ≡ pcpu_line pcpu dom vcpu }
 {
     text::pcpu_line(pcpu, dom, vcpu)
 }
 
 pub fn usage_line(domain: u64, vcpu: u64, weight: u64, service: Service) -> Line
-    ensures { result.items ≡ usage_line domain vcpu weight (number service) }
+    ensures line { result ≡ line_of (usage_line domain vcpu weight (number service)) }
+    ensures text { take result.length result.bytes ≡ usage_line domain vcpu weight (number service) }
 {
     text::usage_line(domain, vcpu, weight, service)
 }

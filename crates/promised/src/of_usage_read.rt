@@ -2,9 +2,9 @@
 
 #![tactic(auto, using(crate::proofs::Page::files))]
 
-ghost use Rattle.std.specs.Prelude.{◌≡◌};
+ghost use Rattle.std.specs.Prelude.{◌≡◌, take};
 ghost use Rattle.page.specs.Steps.{number_of};
-ghost use Rattle.page.specs.UsageFile.{told, body, body_start, further, count, file_text};
+ghost use Rattle.page.specs.UsageFile.{told, body, body_start, further, count, file_text, file_text_of};
 
 use system::Answer;
 use usage_text::FileText;
@@ -24,7 +24,8 @@ pub fn body_of(file: &[u8], domain: usize) -> &[u8]
 }
 
 pub fn text_of(file: &[u8], n: usize) -> FileText
-    ensures text { result.text.items ≡ file_text file.now n }
+    ensures value { result ≡ file_text_of (count file.now) (file_text file.now n) }
+    ensures text { take result.length result.bytes ≡ file_text file.now n }
     ensures count { result.count ≡ count file.now }
 {
     usage_read::text_of(file, n)

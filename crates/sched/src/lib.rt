@@ -160,8 +160,8 @@ pub fn offline(s: &mut System, dom: DomId, vcpu: Vcpu, now: Ticks) -> Answer
 pub fn offline_all(s: &mut System, dom: DomId, now: Ticks) -> Answer
     ensures { system_outcome result s.new ≡ offline_all s.old dom now }
 {
-    let frame = frame_of(s);
-    if !frame.sound {
+    let tested = frame_of(s);
+    if !tested.sound {
         return Answer::Unsound;
     }
     // a bad domain has no vCPUs
@@ -169,7 +169,7 @@ pub fn offline_all(s: &mut System, dom: DomId, now: Ticks) -> Answer
         return Answer::Done;
     }
     for vcpu in 0..s.vcpus_per_domain as u32 {
-        request_in_place(s, frame, dom, vcpu, Request::Offline { now });
+        request_in_place(s, tested, dom, vcpu, Request::Offline { now });
     }
     Answer::Done
 }

@@ -11,7 +11,7 @@ pub mod arguments;
 use std::io::{self, Print, Read};
 
 /// How many bytes were read, and the error of the read that failed after them, if one did.
-#[derive(Drop)]
+#[derive(Clone, Copy)]
 pub struct Got {
     pub bytes: usize,
     pub error: Option<io::Error>,

@@ -5,7 +5,7 @@
 
 ghost use Rattle.std.specs.Prelude.{◌≡◌, ◌==◌, if◌then◌else◌};
 ghost use Rattle.test_fields.specs.Fields.{state_written, occupant_written, vcpu_written, system_written};
-ghost use Rattle.test_fields.specs.Fields.{offset_written, account_written, policy_written, written, kept};
+ghost use Rattle.test_fields.specs.Fields.{offset_written, account_written, policy_written, written, bit, kept};
 
 use host::Host;
 use policy::{Account, Scheduler};
@@ -17,6 +17,9 @@ use system::{DomId, Occupant, RunState, System, Vcpu, VirtualCpu};
 pub const FIRST: u16 = 13;
 /// The last one.
 pub const LAST: u16 = 29;
+
+/// What is kept at a slot, as numbers.
+pub type Numbers = [u64; 9];
 
 // ---- one field: what the record says if the kind names it, else what is there. Kinds stay numbers, as the stream of records
 // has them; specs/Fields lists them.
@@ -119,9 +122,23 @@ pub fn write(h: &mut Host, r: Record)
 
 // ---- what is kept
 
+/// A number as a wider one.
+pub fn wide(n: u32) -> u64
+    ensures { result ≡ n }
+{
+    n as u64
+}
+
+/// 1 for true, 0 for false.
+pub fn bit(b: bool) -> u64
+    ensures { result ≡ bit b }
+{
+    b as u64
+}
+
 /// What no other read tells, at a slot: the weight as stored, the offset by limbs, the snapshot, the boost,
 /// the clock of the last dispatch, and the pCPU that it was last on.
-pub fn kept(h: &Host, dom: DomId, vcpu: Vcpu) -> [u64; 9]
+pub fn kept(h: &Host, dom: DomId, vcpu: Vcpu) -> Numbers
     ensures { result ≡ kept h.now.system h.now.scheduler dom vcpu }
 {
     let i = system::slot_read(dom, vcpu);
@@ -129,14 +146,14 @@ pub fn kept(h: &Host, dom: DomId, vcpu: Vcpu) -> [u64; 9]
     let a = &h.scheduler.accounts[i];
     let [lowest, low, high, highest] = a.offset;
     [
-        a.weight as u64,
-        lowest as u64,
-        low as u64,
-        high as u64,
-        highest as u64,
-        a.was_schedulable as u64,
-        h.scheduler.wake_boost as u64,
+        wide(a.weight),
+        wide(lowest),
+        wide(low),
+        wide(high),
+        wide(highest),
+        bit(a.was_schedulable),
+        bit(h.scheduler.wake_boost),
         v.dispatched_at,
-        v.last as u64,
+        wide(v.last),
     ]
 }

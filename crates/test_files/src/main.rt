@@ -34,7 +34,7 @@ fn examine(rt: &HostRuntime, file: &[u8], domain: usize) {
     put(rt, usage_read::body_of(file, domain).len() as u64, b"\n");
     // by one reader, what it gives of each domain
     let all = usage_read::text_of(file, MAX_DOMAINS);
-    put_bytes(rt, all.text.as_slice());
+    put_bytes(rt, &all.bytes[..all.length]);
 }
 
 // One file; false where there is none left.

@@ -159,7 +159,7 @@ fn put_numbers(out: &mut [u8], at: usize, numbers: &[u64]) -> usize
     ensures within { result ≤ at + (length numbers.now * 21 + 1) }
 {
     let line = text::numbers_line(numbers);
-    text::append(out, at, line.as_slice())
+    text::append(out, at, &line.bytes[..line.length])
 }
 
 fn put_reads(out: &mut [u8], at: usize, h: &Host, q: &Query) -> usize

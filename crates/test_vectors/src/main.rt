@@ -71,10 +71,12 @@ fn orders_of_services() {
     check::expect(!service::more_deserving(ZERO, 0, ZERO, u32::MAX));
 }
 
-// Each pCPU's bit is 1, moved up by its number; from 64 up there is none.
+// Each pCPU's bit is twice the one before it; from 64 up there is none.
 fn bits_of_pcpus() {
+    let mut want: u64 = 1;
     for pcpu in 0..=64 {
-        check::expect(masks::pcpu_bit(pcpu) == 1u64.checked_shl(pcpu).unwrap_or(0));
+        check::expect(masks::pcpu_bit(pcpu) == want);
+        want = want.wrapping_add(want);
     }
 }
 

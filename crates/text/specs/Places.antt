@@ -1,12 +1,25 @@
 -- Text put into a stretch of bytes. Assumes nothing.
-use Rattle.std.specs.Prelude.{ℕ, ◌+◌, ◌≤◌, ◌<◌, cond, ◌≡◌, refl, List, [], ◌++◌, leb, length, take, drop}
+use Rattle.std.specs.Prelude.{ℕ, ◌+◌, ◌≤◌, ◌<◌, cond, ◌≡◌, refl, List, [], ◌++◌, leb, length, take, drop, replicate}
 use Rattle.std.proofs.Common.{sym, ◌∙◌, ap, ap₂, append_assoc, zero-add, add-zero, arith, length-append, take-append-drop, length-take-le, take_at, drop-drop, le-leb}
 use Rattle.std.proofs.Math.Seq.{take-append_seam, drop-append-add}
 use Rattle.std.proofs.lemmas.Bool.{lt-leb}
+use Rattle.text.specs.declared.Line.{Line}
 
 -- t in place of what stands at index `at`
 abbrev pub put : List ℕ → ℕ → List ℕ → List ℕ
 put out at t = take at out ++ (t ++ drop (at + length t) out)
+
+-- t in place of what stands at the start
+abbrev pub over : List ℕ → List ℕ → List ℕ
+over out t = put out 0 t
+
+-- a line of that text: zeros past it
+abbrev pub line_of : List ℕ → Line
+line_of t = record { bytes = over (replicate 192 0) t; length = length t }
+
+-- a line's own text
+abbrev pub text_of : Line → List ℕ
+text_of l = take l.length l.bytes
 
 -- t put at index `at` where there are k bytes from there on, and the index past it
 abbrev pub put_within : ℕ → List ℕ → ℕ → List ℕ → List ℕ
@@ -48,9 +61,14 @@ placed-then {before} {t} {mid} {u} {after} {at} {m} {end} l p q =
     let both : after ≡ put (put before at t) (at + length t) u = q.bytes ∙ ap₂ (λ xs n. put xs n u) p.bytes p.past in
     record { bytes = both ∙ put-put before t u at l; past = omega (arith, p.past, q.past, length-append t u) }
 
+-- a line whose text was put at the start of zeros
+pub line-of : {t bytes : List ℕ} {length' : ℕ} → Placed (replicate 192 0) 0 t bytes length'
+    → record { bytes = bytes; length = length' } ≡ line_of t
+line-of {t} p = ap₂ (λ (b : List ℕ) (n : ℕ). record { bytes = b; length = n }) p.bytes (p.past ∙ zero-add (length t))
+
 -- text that was put at the start is what stands up to its end
-pub line-of : {before t bytes : List ℕ} {end : ℕ} → Placed before 0 t bytes end → take end bytes ≡ t
-line-of {before} {t} p =
+pub text-of : {before t bytes : List ℕ} {end : ℕ} → Placed before 0 t bytes end → take end bytes ≡ t
+text-of {before} {t} p =
     ap₂ (λ (n : ℕ) (b : List ℕ). take n b) (p.past ∙ zero-add (length t)) p.bytes ∙ take-append_seam t (drop (0 + length t) before)
 
 -- no text

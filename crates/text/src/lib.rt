@@ -6,10 +6,9 @@ ghost use Rattle.std.specs.Prelude.{◌≡◌, ◌+◌, ◌/◌, ◌%◌, ◌≤
 ghost use Rattle.service.specs.Service.{value};
 ghost use Rattle.text.specs.Lines.{digits, decimal, wide_decimal, field, fields, numbers_line, pcpu_line, usage_line};
 ghost use Rattle.text.specs.Numerals.{number_in};
-ghost use Rattle.text.specs.Places.{Placed, appended, end_of};
+ghost use Rattle.text.specs.Places.{Placed, line_of, text_of, appended, end_of};
 ghost use Rattle.text.specs.AnswerPlaces.{answer_put, answer_end};
 
-use arrayvec::ArrayVec;
 use service::Service;
 
 /// The most bytes that what a record is told takes.
@@ -17,8 +16,13 @@ pub const ANSWER_ROOM: usize = 63;
 /// The most bytes that a line holds.
 pub const LINE_ROOM: usize = 192;
 
-/// The text of a line.
-pub type Line = ArrayVec<u8, LINE_ROOM>;
+/// A line: its text is the first `length` bytes.
+// no `ArrayVec`, which is never `Copy` and has no zeros past its end
+#[derive(Clone, Copy)]
+pub struct Line {
+    pub bytes: [u8; LINE_ROOM],
+    pub length: usize,
+}
 
 // ---- parts, put at index `at` of a slice: each answers the index past it
 // Straight into what is written: a line made apart and then copied costs a replayed record 10 ns.
@@ -116,15 +120,6 @@ fn put_wide(out: &mut [u8], at: usize, n: Service) -> usize
     put_digits(out, at, 39, n)
 }
 
-// The first of some bytes, up to `end`.
-fn line_until(bytes: [u8; LINE_ROOM], end: usize) -> Line
-    ensures { result.items ≡ take end bytes }
-{
-    let mut line = Line::from_array_in((), bytes);
-    line.truncate(end);
-    line
-}
-
 // ---- lines
 
 /// Puts what a record is told at index `at`: its number, the answer and the moves; where there are
@@ -144,17 +139,21 @@ pub fn put_answer_line(out: &mut [u8], at: usize, number: u64, answer: u64, move
 
 /// The first nine of some numbers, a space before each.
 pub fn numbers_line(numbers: &[u64]) -> Line
-    ensures { result.items ≡ numbers_line (take 9 numbers.now) }
+    ensures line { result ≡ line_of (numbers_line (take 9 numbers.now)) }
+    ensures text { text_of result ≡ numbers_line (take 9 numbers.now) }
+    ensures within { result.length ≤ 192 }
 {
     let mut bytes = [0u8; LINE_ROOM];
     let a = put_fields(&mut bytes, 0, numbers);
-    let end = put_byte(&mut bytes, a, b'\n');
-    line_until(bytes, end)
+    let length = put_byte(&mut bytes, a, b'\n');
+    Line { bytes, length }
 }
 
 /// An occupied pCPU, marked ` p`, and its holder.
 pub fn pcpu_line(pcpu: u64, dom: u64, vcpu: u64) -> Line
-    ensures { result.items ≡ pcpu_line pcpu dom vcpu }
+    ensures line { result ≡ line_of (pcpu_line pcpu dom vcpu) }
+    ensures text { text_of result ≡ pcpu_line pcpu dom vcpu }
+    ensures within { result.length ≤ 192 }
 {
     let mut bytes = [0u8; LINE_ROOM];
     let a = put_byte(&mut bytes, 0, b' ');
@@ -162,13 +161,15 @@ pub fn pcpu_line(pcpu: u64, dom: u64, vcpu: u64) -> Line
     let c = put_field(&mut bytes, b, pcpu);
     let d = put_field(&mut bytes, c, dom);
     let e = put_field(&mut bytes, d, vcpu);
-    let end = put_byte(&mut bytes, e, b'\n');
-    line_until(bytes, end)
+    let length = put_byte(&mut bytes, e, b'\n');
+    Line { bytes, length }
 }
 
 /// What a usage file says of a vCPU: whose it is, its weight and its service.
 pub fn usage_line(domain: u64, vcpu: u64, weight: u64, service: Service) -> Line
-    ensures { result.items ≡ usage_line domain vcpu weight (value service) }
+    ensures line { result ≡ line_of (usage_line domain vcpu weight (value service)) }
+    ensures text { text_of result ≡ usage_line domain vcpu weight (value service) }
+    ensures within { result.length ≤ 192 }
 {
     let mut bytes = [0u8; LINE_ROOM];
     let a = put_number(&mut bytes, 0, domain);
@@ -176,8 +177,8 @@ pub fn usage_line(domain: u64, vcpu: u64, weight: u64, service: Service) -> Line
     let c = put_field(&mut bytes, b, weight);
     let d = put_byte(&mut bytes, c, b' ');
     let e = put_wide(&mut bytes, d, service);
-    let end = put_byte(&mut bytes, e, b'\n');
-    line_until(bytes, end)
+    let length = put_byte(&mut bytes, e, b'\n');
+    Line { bytes, length }
 }
 
 /// Puts a line at index `at`, if it fits there, and answers the index past it.

@@ -10,7 +10,7 @@ use records::RECORD;
 use script::Script;
 use std::env::Env;
 use std::io::Print;
-use streams::arguments;
+use streams::arguments::{self, WORD_ROOM};
 use system::{Answer, MAX_DOMAINS};
 
 // What is asked for; a read with no domain is of all.
@@ -89,14 +89,15 @@ fn asked(rt: &HostRuntime) -> Result<Request, Refusal> {
     let mut word = [0u8; 8];
     let n = rt.arg(1, &mut word).unwrap_or(0);
     let count = arguments::count(rt, 4);
+    let mut number = [0u8; WORD_ROOM];
     match &word[..n] {
         b"write" if count == 3 => {
-            let reading = arguments::number(rt, 2).ok_or(Refusal::NoReading)?;
+            let reading = arguments::number(rt, 2, &mut number).ok_or(Refusal::NoReading)?;
             Ok(Request::Write { reading })
         }
         b"read" if count == 2 => Ok(Request::Read { domain: None }),
         b"read" if count == 3 => {
-            let domain = arguments::number(rt, 2).ok_or(Refusal::NoDomain)?;
+            let domain = arguments::number(rt, 2, &mut number).ok_or(Refusal::NoDomain)?;
             Ok(Request::Read {
                 domain: Some(domain as usize),
             })
@@ -153,7 +154,7 @@ fn write_file(rt: &HostRuntime, reading: u64) -> Result<(), Refusal> {
     }
     let host = &script.host;
     let file = usage_write::write(&host.system, &host.scheduler, reading);
-    put(rt, file.as_slice());
+    put(rt, &file.bytes[..file.length]);
     Ok(())
 }
 
@@ -166,7 +167,7 @@ fn put_domain(rt: &HostRuntime, file: &[u8], domain: usize) -> Result<(), Refusa
         _ => {}
     }
     let text = usage_text::body_text(domain as u64, usage_read::body_of(file, domain));
-    put(rt, text.as_slice());
+    put(rt, &text.bytes[..text.length]);
     Ok(())
 }
 
@@ -176,7 +177,7 @@ fn put_all(rt: &HostRuntime, file: &[u8]) -> Result<(), Refusal> {
     if all.count.is_none() {
         return Err(Refusal::BadFile);
     }
-    put(rt, all.text.as_slice());
+    put(rt, &all.bytes[..all.length]);
     Ok(())
 }
 

@@ -3,6 +3,7 @@
 #![tactic(auto)]
 
 ghost use Rattle.std.specs.Prelude.{◌≡◌, ◌+◌, ◌*◌, ◌^◌, ◌≤◌, ◌<◌, length};
+ghost use Rattle.big_endian.specs.Numbers.{number};
 ghost use Rattle.service.specs.Service.{value, held};
 ghost use Rattle.usage_layout.specs.Reading.{all, offset_in, vcpus_in, line_right, weighed, shaped, vcpus_each};
 ghost use Rattle.usage_parse.specs.Domains.{count_in, answer_at, stretch_at, place_at, vcpus_of, weight_at, service_at};
@@ -11,6 +12,16 @@ use big_endian::BigEndian;
 use service::Service;
 use system::{Answer, MAX_DOMAINS, MAX_VCPUS};
 use usage_layout::MAGIC;
+
+// ---- numbers
+
+// The number of that word. Cut to its own bytes: a length that is known leaves no test.
+fn word_at(s: &[u8], at: usize) -> u32
+    requires { at + 4 ≤ length s.now }
+    ensures { result ≡ number s.now at 4 }
+{
+    u32::read_at(&s[at..at + 4], 0)
+}
 
 // ---- what is accepted
 
@@ -28,7 +39,7 @@ fn line_at(s: &[u8], d: usize) -> Line
     ensures vcpus { (result.vcpus ≡ vcpus_in s.now d) × (result.vcpus < 2 ^ 16) }
 {
     Line {
-        offset: u32::read_at(s, 6 + d * 6) as usize,
+        offset: word_at(s, 6 + d * 6) as usize,
         vcpus: u16::read_at(s, 10 + d * 6) as usize,
     }
 }
@@ -58,7 +69,7 @@ fn weighed(s: &[u8], from: usize, m: usize) -> bool
     requires few { m ≤ 128 }
     ensures { result ≡ weighed s.now from m }
 {
-    (0..m).all(|i| 1 <= u32::read_at(s, from + i * 20))
+    (0..m).all(|i| 1 <= word_at(s, from + i * 20))
 }
 
 // Whether it has n domains of k vCPUs each, every line right, every weight at least 1, and no byte after the last body.
@@ -144,7 +155,7 @@ pub fn weight_at(body: &[u8], vcpu: usize) -> u32
     if vcpu_count(body) <= vcpu {
         return 0;
     }
-    u32::read_at(body, vcpu * 20)
+    word_at(body, vcpu * 20)
 }
 
 /// A vCPU's service; 0 for one that the body has not.
@@ -158,9 +169,9 @@ pub fn service_at(body: &[u8], vcpu: usize) -> Service
     }
     let at = vcpu * 20 + 4;
     [
-        u32::read_at(body, at + 12),
-        u32::read_at(body, at + 8),
-        u32::read_at(body, at + 4),
-        u32::read_at(body, at),
+        word_at(body, at + 12),
+        word_at(body, at + 8),
+        word_at(body, at + 4),
+        word_at(body, at),
     ]
 }

@@ -3,9 +3,10 @@
 
 #![tactic(auto)]
 
-ghost use Rattle.std.specs.Prelude.{◌≡◌};
+ghost use Rattle.std.specs.Prelude.{◌≡◌, take};
+ghost use Rattle.io.specs.Counts.{IsPrefixLen};
 ghost use Rattle.usage_parse.specs.Domains.{count_in, answer_at, stretch_at, place_at, answer_of, stretch_of, place_of};
-ghost use Rattle.usage_text.specs.FileText.{file_lines, lines_of};
+ghost use Rattle.usage_text.specs.FileText.{file_lines, lines_of, file_text_of};
 
 use system::Answer;
 use usage_parse::{answer_at, body_at, domain_count};
@@ -46,7 +47,9 @@ impl<'a> Reader<'a> {
 
     /// The lines of its first n domains, of at most sixteen, each from that domain's body.
     pub fn text(self, n: usize) -> FileText
-        ensures lines { result.text.items ≡ file_lines self.entry.file.now self.entry.count n }
+        ensures value { result ≡ file_text_of self.entry.count (file_lines self.entry.file.now self.entry.count n) }
+        ensures prefix_len { IsPrefixLen result.length result.bytes }
+        ensures lines { take result.length result.bytes ≡ file_lines self.entry.file.now self.entry.count n }
         ensures count { result.count ≡ self.entry.count }
     {
         file_text(self.file, self.count, n)
@@ -69,7 +72,9 @@ pub fn body_of(file: &[u8], domain: usize) -> &[u8]
 
 /// The lines of the first n domains that a reader of the file gives: it is opened once.
 pub fn text_of(file: &[u8], n: usize) -> FileText
-    ensures lines { result.text.items ≡ lines_of file.now n }
+    ensures value { result ≡ file_text_of (count_in file.now) (lines_of file.now n) }
+    ensures prefix_len { IsPrefixLen result.length result.bytes }
+    ensures lines { take result.length result.bytes ≡ lines_of file.now n }
     ensures count { result.count ≡ count_in file.now }
 {
     Reader::open(file).text(n)

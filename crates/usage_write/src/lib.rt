@@ -2,14 +2,13 @@
 
 #![tactic(auto)]
 
-ghost use Rattle.std.specs.Prelude.{◌≡◌, ◌+◌, ◌≤◌, ◌<◌, ◌++◌, length};
-ghost use Rattle.arrayvec.specs.ArrayVec.{array_vec_len};
+ghost use Rattle.std.specs.Prelude.{◌≡◌, ◌+◌, ◌≤◌, ◌<◌, length, take};
+ghost use Rattle.std.proofs.lemmas.List.Edits.{sets};
 ghost use Rattle.service.specs.Service.{value};
-ghost use Rattle.usage_layout.specs.Layout.{each, entry, vcpu_bytes, file};
+ghost use Rattle.usage_layout.specs.Layout.{each, entry, vcpu_bytes, file, padded};
 ghost use Rattle.usage_layout.specs.Files.{Says};
 ghost use Rattle.usage_write.specs.Written.{figures_of};
 
-use arrayvec::ArrayVec;
 use big_endian::BigEndian;
 use policy::Scheduler;
 use service::Service;
@@ -19,8 +18,12 @@ use usage_layout::MAGIC;
 /// The largest file: 6 bytes, a line of 6 for each of 16 domains, 20 for each of their 8 vCPUs.
 pub const ROOM: usize = 2662;
 
-/// The bytes of a file.
-pub type Written = ArrayVec<u8, ROOM>;
+/// A file: the first `length` bytes, and zeros past them.
+#[derive(Clone, Copy)]
+pub struct Written {
+    pub bytes: [u8; ROOM],
+    pub length: usize,
+}
 
 // ---- parts
 
@@ -48,21 +51,21 @@ fn vcpu_bytes(weight: u32, service: Service) -> [u8; 20]
     bytes
 }
 
-// Appends bytes for which there is room.
-fn push(file: &mut Written, bytes: &[u8])
-    requires { array_vec_len file.old + length bytes.now ≤ 2662 }
-    ensures { file.new.items ≡ file.old.items ++ bytes.now }
+// Puts bytes for which there is room.
+fn put(out: &mut [u8; ROOM], at: usize, bytes: &[u8])
+    requires { at + length bytes.now ≤ 2662 }
+    ensures { out.new ≡ sets out.old at bytes.now }
 {
-    file.try_extend_from_slice(bytes).unwrap();
+    out[at..at + bytes.len()].copy_from_slice(bytes);
 }
 
 // The table of contents of n domains of k vCPUs.
-fn push_entries(file: &mut Written, n: usize, k: usize)
-    requires { (n ≤ 16) × (k ≤ 8) × (array_vec_len file.old ≤ 6) }
-    ensures { file.new.items ≡ file.old.items ++ each n (entry n k) }
+fn put_entries(out: &mut [u8; ROOM], n: usize, k: usize)
+    requires { (n ≤ 16) × (k ≤ 8) }
+    ensures { out.new ≡ sets out.old 6 (each n (entry n k)) }
 {
     for d in 0..n {
-        push(file, &entry(n, k, d));
+        put(out, 6 + d * 6, &entry(n, k, d));
     }
 }
 
@@ -70,24 +73,25 @@ fn push_entries(file: &mut Written, n: usize, k: usize)
 
 /// The usage file of a system and a policy, damaged or not, as reads see them.
 pub fn write(s: &System, p: &Scheduler, now: Ticks) -> Written
-    ensures bytes { result.items ≡ file (figures_of s.now p.now now) }
-    ensures fits { (array_vec_len result ≡ length (file (figures_of s.now p.now now))) × (array_vec_len result ≤ 2662) }
+    ensures bytes { result.bytes ≡ padded (file (figures_of s.now p.now now)) }
+    ensures fits { (result.length ≡ length (file (figures_of s.now p.now now))) × (result.length ≤ 2662) }
+    ensures first { take result.length result.bytes ≡ file (figures_of s.now p.now now) }
     ensures says { Says (file (figures_of s.now p.now now)) (figures_of s.now p.now now) }
 {
     let n = s.domain_count();
     let k = s.vcpus_per_domain();
-    let mut file = Written::new();
-    push(&mut file, &MAGIC);
-    let mut count = [0u8; 2];
-    (n as u16).put_at(&mut count, 0);
-    push(&mut file, &count);
-    push_entries(&mut file, n, k);
+    let mut bytes = [0u8; ROOM];
+    put(&mut bytes, 0, &MAGIC);
+    (n as u16).put_at(&mut bytes, 4);
+    put_entries(&mut bytes, n, k);
+    let mut length = 6 + n * 6;
     for i in 0..n * MAX_VCPUS {
         if i % MAX_VCPUS < k {
             let weight = p.account_at(i).used_weight();
             let service = s.vcpus[i].runtime_until(now);
-            push(&mut file, &vcpu_bytes(weight, service));
+            put(&mut bytes, length, &vcpu_bytes(weight, service));
+            length += 20;
         }
     }
-    file
+    Written { bytes, length }
 }

@@ -1,5 +1,4 @@
 -- `host_text::put_pcpu` meets its contract. Assumes nothing.
-use Rattle.std.proofs.Common.{◌∙◌}
 use Rattle.text.specs.Lines.{pcpu_line}
 use Rattle.text.specs.Lengths.{pcpu-line-short}
 use Rattle.text.specs.Places.{line-placed}
@@ -13,5 +12,5 @@ returns-in-Vcpu c =
     let v = c.in-Vcpu.vcpu in
     let put = c.append.ensures in
     rw c.in-Vcpu.is
-    (line-placed a.out.now (pcpu_line a.pcpu d v) a.at pcpu_room _ (c.as_slice.ensures.value ∙ c.pcpu_line-line.ensures)
+    (line-placed a.out.now (pcpu_line a.pcpu d v) a.at pcpu_room _ c.pcpu_line-line.ensures.text
     (pcpu-line-short a.pcpu d v) c.requires put.written put.past).0

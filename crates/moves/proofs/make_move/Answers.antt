@@ -1,5 +1,5 @@
 -- What `moves::make_move` leaves to show. Assumes nothing.
-use Rattle.std.proofs.Common.{ℕ, ◌≤◌, ◌<◌, sym, subst, add-one, arith}
+use Rattle.std.proofs.Common.{ℕ, ◌≤◌, ◌<◌, refl, sym, subst, add-one, arith}
 use Rattle.moves.specs.DecideLaws.{run_fits, preempt-beaten}
 use Rattle.moves.specs.Table.{tabled}
 use Rattle.moves.specs.TableWrites.{dispatched_in, left_in}
@@ -29,6 +29,10 @@ overflow_sub-idle c =
     let idle = c.args.idle.now in
     subst (λ (b : ℕ). b ≤ idle) (sym c.pcpu_bit.ensures) (leaves idle c.in-Run.pcpu f.1.idle)
 
+pub returns-in-Run-clause-table : goal.returns-in-Run-clause-table
+unfolding dispatched_in
+returns-in-Run-clause-table c = rw c.dispatch.ensures refl
+
 pub returns-in-Run-clause-within : goal.returns-in-Run-clause-within
 returns-in-Run-clause-within c = run (goal.at.returns-in-Run-clause-within c).In-Run
 
@@ -41,6 +45,10 @@ offset_bounds-table-at-in-Preempt c = record { fits = omega (arith, off c) }
 
 pub bounds-table-at-in-Preempt : goal.bounds-table-at-in-Preempt
 bounds-table-at-in-Preempt c = off c
+
+pub returns-in-Preempt-clause-table : goal.returns-in-Preempt-clause-table
+unfolding left_in
+returns-in-Preempt-clause-table c = rw c.leave.ensures refl
 
 pub returns-in-Preempt-clause-within : goal.returns-in-Preempt-clause-within
 returns-in-Preempt-clause-within c = (off (goal.at.returns-in-Preempt-clause-within c).In-Preempt, omega arith)

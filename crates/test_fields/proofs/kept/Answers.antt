@@ -10,4 +10,5 @@ unfolding kept vcpu_at
 returns c =
     let a = c.args in
     let account = stored a.h.now.scheduler (record { accounts = omega arith }) (slot_of a.dom a.vcpu) (omega arith) in
-    rw (c.slot_read-i.ensures, account)
+    rw (c.wide-6.ensures, c.bit-2.ensures, c.bit.ensures, c.wide-5.ensures, c.wide-4.ensures, c.wide-3.ensures, c.wide-2.ensures, c.wide.ensures)
+    (rw (c.slot_read-i.ensures, account))

@@ -54,10 +54,10 @@ unfolding value
 returns-clause-exact c =
     let there : c.args.vcpu < length c.args.body.now / 20 = omega arith in
     simp (lt-ltb _ _ there)
-    (omega (arith, four-words c.args.body.now (c.args.vcpu * 20 + 4), c.read_at.ensures, c.read_at-2.ensures, c.read_at-3.ensures, c.read_at-4.ensures))
+    (omega (arith, four-words c.args.body.now (c.args.vcpu * 20 + 4), c.word_at.ensures, c.word_at-2.ensures, c.word_at-3.ensures, c.word_at-4.ensures))
 
 pub returns-clause-held : goal.returns-clause-held
 returns-clause-held c =
-    let worth : value (c.read_at.result ∷ c.read_at-2.result ∷ c.read_at-3.result ∷ c.read_at-4.result ∷ []) ≡ service_at c.args.body.now c.args.vcpu =
+    let worth : value (c.word_at.result ∷ c.word_at-2.result ∷ c.word_at-3.result ∷ c.word_at-4.result ∷ []) ≡ service_at c.args.body.now c.args.vcpu =
     returns-clause-exact c in
-    words-held _ _ _ _ c.read_at.type_inv c.read_at-2.type_inv c.read_at-3.type_inv c.read_at-4.type_inv ∙ ap held worth
+    words-held _ _ _ _ c.word_at.type_inv c.word_at-2.type_inv c.word_at-3.type_inv c.word_at-4.type_inv ∙ ap held worth

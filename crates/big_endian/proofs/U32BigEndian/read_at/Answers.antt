@@ -1,6 +1,14 @@
 -- `read_at` of a `u32` meets its contract. Assumes nothing.
-use Rattle.big_endian.proofs.Std.{read-word}
+use Rattle.std.proofs.Common.{◌∙◌, arith}
+use Rattle.big_endian.proofs.Std.{read-word, number-there}
 use Rattle.big_endian.proofs.U32BigEndian.read_at.Goals as goal
 
-pub returns : goal.returns
-returns c = read-word c.args.bytes.now c.args.at c.first_chunk.ensures.cases c.unwrap.ensures c.from_be_bytes.ensures
+pub returns-then-saturating_add-bytes : goal.returns-then-saturating_add-bytes
+returns-then-saturating_add-bytes c =
+    read-word _ c.first_chunk.ensures.cases c.unwrap.ensures c.from_be_bytes.ensures ∙ number-there c.args.bytes.now c.args.at 4
+
+pub returns-else-saturating_add-bytes : goal.returns-else-saturating_add-bytes
+returns-else-saturating_add-bytes c =
+    read-word _ c.first_chunk-else-saturating_add-bytes.ensures.cases c.unwrap-else-saturating_add-bytes.ensures
+    c.from_be_bytes-else-saturating_add-bytes.ensures
+    ∙ c.over_the_end.ensures 4 (omega arith)
