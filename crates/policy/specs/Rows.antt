@@ -156,6 +156,7 @@ settings =
     -- the same of the account that is kept, in a shape of 2 domains of 3 vCPUs and outside it, and in one past the sizes
     ∷ rows (weight_kept (set_weight (all_light 2 3) 1 2 6) 10 ∷ weight_kept (set_weight (all_light 2 3) 1 2 0) 10 ∷ []) (6 ∷ 1 ∷ [])
     ∷ rows (weight_kept (set_weight (all_light 2 3) 2 2 6) 18 ∷ weight_kept (set_weight (all_light 2 3) 1 3 6) 11 ∷ []) (5 ∷ 5 ∷ [])
+    ∷ row (weight_kept (set_weight (all_light 20 9) 16 0 6) 0) 5
     ∷ row (weight_kept (set_weight (all_light 20 9) 0 8 6) 8) 5
     ∷ row (account_of (set_weight (all_light 20 9) 16 0 6) 16 0).weight 256
     ∷ rows (looks (policy (pooled 3 9) (pooled 0 7)) 0 1) (1 ∷ 7 ∷ 1 ∷ [])
